@@ -1,0 +1,4 @@
+pub mod Library
+pub mod Yanks
+pub mod Image
+pub mod Check

@@ -1,0 +1,51 @@
+// Lines and directives: from bytes to what a line asks.
+
+// What a directive's name asks for.
+pub enum Kind {
+    Text,
+    Skipped,
+    NotCarried,
+    Deck,
+    Comdeck,
+    Ident,
+    Insert,
+    Before,
+    Delete,
+    Restore,
+    Yank,
+}
+
+// A card as a directive names it: its owner's name as a directory word, and its number.
+pub struct CardName {
+    pub name: u64,
+    pub seq: u64,
+}
+
+// What a line of a stream, or of a card, says.
+pub enum Line {
+    Text,
+    Skipped,
+    Deck(u64),
+    Comdeck(u64),
+    Ident(u64),
+    Insert(CardName),
+    Before(CardName),
+    Delete(CardName, CardName),
+    Restore(CardName, CardName),
+    Yank,
+    // a byte outside the character set
+    Outside,
+    // over 80 columns
+    Long,
+    // the directive's form
+    Malformed,
+    // a directive that is not carried
+    NotCarried,
+}
+
+// What a card says when the compile file is written.
+pub enum Call {
+    Not,
+    Of(u64),
+    Malformed,
+}

@@ -1,0 +1,122 @@
+-- A line and the words it is written in (01, "Text"). A line is the list of its bytes, one to a column.
+--   without trailing blanks      trim
+--   line to codes                blanks, squeeze, compress
+--   codes to words and back      wordsOf, allCodes
+--   line to words                textWords, isLine, compressing, compressInto
+--   words to line                columnsOf, says, isText, expanding, expandInto
+--   01's numbers                 compressedNumber, expandedNumber
+use Prim.Native.Nat.{ℕ, zero, suc, _+_, _-_, _*_, _/_, _%_, _^_}
+use mathlib.Core.Bool.{Bool, true, false, _&&_, not}
+use mathlib.Core.List.{List, [], _∷_, _++_, map}
+use lib.Dec.{eqb, ltb, leb}
+use lib.ListN.{length, replicate, drop}
+use Rattle.words.specs.Base.{if_then_else_, all, same, isNil}
+use Rattle.words.specs.Display.{codeOf, inChart, letter, blank}
+use Rattle.words.specs.declared.Compressed.{Compressed}
+use Rattle.words.specs.declared.Compressed.the-variants.{Words, Outside, Long}
+use Rattle.words.specs.declared.Expanded.{Expanded}
+use Rattle.words.specs.declared.Expanded.the-variants.{Columns, NoText}
+
+-- "Trailing blanks are dropped"
+abbrev pub trim : List ℕ → List ℕ
+trim [] = []
+trim (x ∷ xs) = let r = trim xs in if eqb x blank && isNil r then [] else (x ∷ r)
+
+-- LINE TO CODES
+-- a blank's code
+abbrev pub gap : ℕ
+gap = 0o55
+
+-- a run of n blanks: "1 or 2 as 55s, 3 to 64 as 0002 to 0077, above 64 as 0077 and then the rest of the run by the same rule"
+abbrev pub shortRun : ℕ → List ℕ
+shortRun n = if ltb n 3 then replicate n gap else (0 ∷ (n - 1) ∷ [])
+
+abbrev pub longRuns : ℕ → List ℕ → List ℕ
+longRuns zero r = r
+longRuns (suc k) r = 0 ∷ 0o77 ∷ longRuns k r
+
+unfoldable pub blanks : ℕ → List ℕ
+blanks n = let k = (n - 1) / 64 in longRuns k (shortRun (n - 64 * k))
+
+-- a code as it is written: "A colon is written 0001"
+abbrev pub sign : ℕ → List ℕ → List ℕ
+sign zero r = 0 ∷ 1 ∷ r
+sign (suc c) r = suc c ∷ r
+
+-- the rest of a line after n blanks
+abbrev pub squeeze : ℕ → List ℕ → List ℕ
+squeeze n [] = []
+squeeze n (c ∷ cs) = if eqb c gap then squeeze (suc n) cs else (blanks n ++ sign c (squeeze 0 cs))
+
+-- "A leading blank is 55. Any other run of blanks" is written as a run
+abbrev pub compress : List ℕ → List ℕ
+compress [] = []
+compress (c ∷ cs) = if eqb c gap then (gap ∷ squeeze 0 cs) else squeeze 0 (c ∷ cs)
+
+-- CODES TO WORDS: ten codes to a word, zero fill; w is the word so far, with k of its places left
+abbrev pub fill : ℕ → ℕ → List ℕ → List ℕ
+fill w k [] = if eqb k 10 then [] else (w * 64 ^ k ∷ [])
+fill w zero (x ∷ xs) = w ∷ fill x 9 xs
+fill w (suc k) (x ∷ xs) = fill (w * 64 + x) k xs
+
+unfoldable pub wordsOf : List ℕ → List ℕ
+wordsOf cs = fill 0 10 cs
+
+-- a word's k lowest codes, ahead of r
+abbrev pub lowCodes : ℕ → ℕ → List ℕ → List ℕ
+lowCodes zero w r = r
+lowCodes (suc k) w r = lowCodes k (w / 64) (w % 64 ∷ r)
+
+abbrev pub allCodes : List ℕ → List ℕ
+allCodes [] = []
+allCodes (w ∷ ws) = lowCodes 10 w (allCodes ws)
+
+-- LINE TO WORDS
+unfoldable pub textWords : List ℕ → List ℕ
+textWords l = wordsOf (compress (map codeOf (trim l)))
+
+-- "Lines are 0 to 80 columns" of the character set; 20 looks at the whole line ahead of 21
+unfoldable pub compressing : List ℕ → Compressed
+compressing l =
+    if not (all inChart l) then Outside
+    else if ltb 80 (length l) then Long
+    else Words (length (textWords l))
+
+unfoldable pub compressInto : List ℕ → List ℕ → List ℕ
+compressInto l space = elim (compressing l) [ Words n ↦ textWords l ++ drop n space | Outside ↦ space | Long ↦ space ]
+
+-- WORDS TO LINE: the columns that codes stand for. 0001 is a colon, 0002 to 0077 are 3 to 64 blanks, 0000 ends the line.
+abbrev pub pair : ℕ → List ℕ → List ℕ
+pair zero r = 0 ∷ r
+pair (suc y) r = replicate (y + 3) gap ++ r
+
+abbrev pub columnsOf : List ℕ → List ℕ
+columnsOf [] = []
+columnsOf (zero ∷ []) = []
+columnsOf (zero ∷ zero ∷ r) = []
+columnsOf (zero ∷ suc y ∷ r) = pair y (columnsOf r)
+columnsOf (suc c ∷ r) = suc c ∷ columnsOf r
+
+-- the line that words say, whether or not they are the words that it is written in
+unfoldable pub says : List ℕ → List ℕ
+says ws = map letter (columnsOf (allCodes ws))
+
+-- row 6: "Only this encoding is accepted"
+unfoldable pub isText : List ℕ → Bool
+isText ws = leb (length (says ws)) 80 && same (textWords (says ws)) ws
+
+unfoldable pub expanding : List ℕ → Expanded
+expanding ws = if isText ws then Columns (length (says ws)) else NoText
+
+unfoldable pub expandInto : List ℕ → List ℕ → List ℕ
+expandInto ws space = elim (expanding ws) [ Columns n ↦ says ws ++ drop n space | NoText ↦ space ]
+
+-- 01'S NUMBERS
+abbrev pub compressedNumber : Compressed → ℕ
+compressedNumber (Words n) = 0
+compressedNumber Outside = 20
+compressedNumber Long = 21
+
+abbrev pub expandedNumber : Expanded → ℕ
+expandedNumber (Columns n) = 0
+expandedNumber NoText = 6
