@@ -160,12 +160,13 @@ pub record Fields : Type 0 where
 abbrev pub fieldsOf : List ℕ → ℕ → Fields
 fieldsOf ws k =
     let w : ℕ = getD ws 0 0 in
-    record
-    { head = take k ws
-    ; text = take (w / 2 ^ 36 % 2 ^ 18) (drop k ws)
-    ; act = eqb (w / 2 ^ 58 % 2) 1
-    ; seq = w / 2 ^ 18 % 2 ^ 18
-    ; raw = used (rawBytes (take k ws)) }
+    record {
+      head = take k ws;
+      text = take (w / 2 ^ 36 % 2 ^ 18) (drop k ws);
+      act = eqb (w / 2 ^ 58 % 2) 1;
+      seq = w / 2 ^ 18 % 2 ^ 18;
+      raw = used (rawBytes (take k ws));
+    }
 
 abbrev pub cardOf : Fields → Card
 cardOf f =
