@@ -1,0 +1,219 @@
+//! Cases and their answers, one format for every implementation.
+
+use std::collections::BTreeMap;
+use std::io::{self, Write};
+
+use crate::check::check;
+use crate::compile::compile;
+use crate::lines::lines;
+use crate::refusal::{Number, Refusal};
+use crate::run::run;
+use crate::text::{compress, expand};
+use crate::words::{from_bytes, pack_bytes, to_bytes, unpack_bytes};
+
+pub const CHECK: u8 = 1;
+pub const RUN: u8 = 2;
+pub const COMPILE: u8 = 3;
+pub const PACK: u8 = 4;
+pub const UNPACK: u8 = 5;
+pub const COMPRESS: u8 = 6;
+pub const EXPAND: u8 = 7;
+
+const HEAD: usize = 13;
+/// What each byte of a lent space holds before the call.
+const LENT: u8 = 0x5A;
+
+#[derive(Clone, Debug, PartialEq, Eq)]
+pub struct Case {
+    pub op: u8,
+    pub room: u32,
+    pub first: Vec<u8>,
+    pub second: Vec<u8>,
+}
+
+/// The three numbers and the sum.
+#[derive(Clone, Copy, Debug, PartialEq, Eq)]
+pub struct Answer {
+    pub number: u32,
+    pub values: [usize; 2],
+    pub sum: u64,
+}
+
+impl Case {
+    pub fn check(image: &[u64]) -> Case {
+        Case { op: CHECK, room: 0, first: to_bytes(image), second: Vec::new() }
+    }
+
+    pub fn run(image: &[u64], stream: &[u8], room: usize) -> Case {
+        Case { op: RUN, room: room as u32, first: to_bytes(image), second: stream.to_vec() }
+    }
+
+    pub fn compile(image: &[u64], room: usize) -> Case {
+        Case { op: COMPILE, room: room as u32, first: to_bytes(image), second: Vec::new() }
+    }
+
+    pub fn bytes(op: u8, room: usize, bytes: Vec<u8>) -> Case {
+        Case { op, room: room as u32, first: bytes, second: Vec::new() }
+    }
+
+    pub fn write(&self, out: &mut impl Write) -> io::Result<()> {
+        out.write_all(&[self.op])?;
+        for number in [self.room, self.first.len() as u32, self.second.len() as u32] {
+            out.write_all(&number.to_le_bytes())?;
+        }
+        out.write_all(&self.first)?;
+        out.write_all(&self.second)
+    }
+
+    pub fn answer(&self) -> Answer {
+        let room = self.room as usize;
+        let image = || from_bytes(&self.first);
+        match self.op {
+            CHECK => match check(&image()) {
+                Ok(_) => done(0, 0, 0),
+                Err(refusal) => refused(refusal, 0),
+            },
+            RUN => match run(&image(), &self.second, room) {
+                Ok(new) => done(new.len(), 0, space_sum(&to_halves(&new), room * 2, LENT_HALF)),
+                Err(refusal) => refused(refusal, space_sum(&[], room * 2, LENT_HALF)),
+            },
+            COMPILE => match compile(&image(), room) {
+                Ok(file) => done(file.lines(), file.calls, byte_sum(&file.bytes, room)),
+                Err(refusal) => refused(refusal, byte_sum(&[], room)),
+            },
+            PACK => bytes_answer(pack_bytes(&self.first, room), room),
+            UNPACK => bytes_answer(unpack_bytes(&self.first, room), room),
+            COMPRESS => {
+                let words = compress(&self.first);
+                done(words.len(), 0, space_sum(&to_halves(&words), words.len() * 2, LENT_HALF))
+            }
+            EXPAND => match expand(&image()) {
+                Some(line) => done(line.len(), 0, byte_sum(&line, line.len())),
+                None => refused(Refusal::new(Number::TextForm, 0), 0),
+            },
+            op => panic!("no op {}", op),
+        }
+    }
+}
+
+fn done(first: usize, second: usize, sum: u64) -> Answer {
+    Answer { number: 0, values: [first, second], sum }
+}
+
+fn refused(refusal: Refusal, sum: u64) -> Answer {
+    let sequence = refusal.sequence.unwrap_or(0) as usize;
+    Answer { number: refusal.number as u32, values: [refusal.place, sequence], sum }
+}
+
+fn bytes_answer(result: Result<Vec<u8>, Number>, room: usize) -> Answer {
+    match result {
+        Ok(bytes) => done(bytes.len(), 0, byte_sum(&bytes, room)),
+        Err(number) => refused(Refusal::new(number, 0), byte_sum(&[], room)),
+    }
+}
+
+const LENT_HALF: u32 = u32::from_le_bytes([LENT; 4]);
+
+/// A word counts as its low 32 bits and then its high 32 bits.
+fn to_halves(words: &[u64]) -> Vec<u32> {
+    words.iter().flat_map(|&word| [word as u32, (word >> 32) as u32]).collect()
+}
+
+fn byte_sum(written: &[u8], room: usize) -> u64 {
+    let written: Vec<u32> = written.iter().map(|&byte| u32::from(byte)).collect();
+    space_sum(&written, room, u32::from(LENT))
+}
+
+/// The sum over a space of `room` items: those written, then those left as they were lent.
+fn space_sum(written: &[u32], room: usize, lent: u32) -> u64 {
+    let left = std::iter::repeat(lent).take(room - written.len());
+    let step = |sum: u64, item: u32| (sum * 65_599 + u64::from(item)) % 4_294_967_291;
+    written.iter().copied().chain(left).fold(0, step)
+}
+
+/// The cases of a file. A file cut short ends with its last whole case.
+pub fn cases(file: &[u8]) -> impl Iterator<Item = Case> + '_ {
+    let mut rest = file;
+    std::iter::from_fn(move || {
+        let (case, after) = first_case(rest)?;
+        rest = after;
+        Some(case)
+    })
+}
+
+fn first_case(file: &[u8]) -> Option<(Case, &[u8])> {
+    let head = file.get(..HEAD)?;
+    let number = |at: usize| u32::from_le_bytes([head[at], head[at + 1], head[at + 2], head[at + 3]]);
+    let (first, second) = (number(5) as usize, number(9) as usize);
+    let body = file.get(HEAD..HEAD + first + second)?;
+    let (first, second) = body.split_at(first);
+    let case = Case { op: head[0], room: number(1), first: first.to_vec(), second: second.to_vec() };
+    Some((case, &file[HEAD + body.len()..]))
+}
+
+pub fn write_answers(file: &[u8], out: &mut impl Write) -> io::Result<()> {
+    for case in cases(file) {
+        let Answer { number, values: [first, second], sum } = case.answer();
+        writeln!(out, "{} {} {} {}", number, first, second, sum)?;
+    }
+    Ok(())
+}
+
+/// A table of op, number of the answer, and how many.
+pub fn write_counts(file: &[u8], out: &mut impl Write) -> io::Result<()> {
+    let mut counts: BTreeMap<(u8, u32), usize> = BTreeMap::new();
+    for case in cases(file) {
+        *counts.entry((case.op, case.answer().number)).or_insert(0) += 1;
+    }
+    for ((op, number), count) in counts {
+        writeln!(out, "{:2} {:3} {:7}", op, number, count)?;
+    }
+    Ok(())
+}
+
+/// Copies the case at a place, counted from 1.
+pub fn write_picked(file: &[u8], place: usize, out: &mut impl Write) -> io::Result<()> {
+    match place.checked_sub(1).and_then(|index| cases(file).nth(index)) {
+        Some(case) => case.write(out),
+        None => Ok(()),
+    }
+}
+
+/// Each case for people: octal words, streams as text, other bytes in hexadecimal.
+pub fn write_shown(file: &[u8], out: &mut impl Write) -> io::Result<()> {
+    for (index, case) in cases(file).enumerate() {
+        let Answer { number, values: [first, second], sum } = case.answer();
+        writeln!(out, "case {}: op {} room {}", index + 1, case.op, case.room)?;
+        match case.op {
+            UNPACK => show_bytes(&case.first, out)?,
+            COMPRESS => show_lines(&case.first, out)?,
+            _ => show_words(&case.first, out)?,
+        }
+        show_lines(&case.second, out)?;
+        writeln!(out, "answer: {} {} {} {}\n", number, first, second, sum)?;
+    }
+    Ok(())
+}
+
+fn show_words(bytes: &[u8], out: &mut impl Write) -> io::Result<()> {
+    for (place, word) in from_bytes(bytes).iter().enumerate() {
+        writeln!(out, "{:7} {:020o}", place, word)?;
+    }
+    show_bytes(&bytes[bytes.len() / 8 * 8..], out)
+}
+
+fn show_bytes(bytes: &[u8], out: &mut impl Write) -> io::Result<()> {
+    for chunk in bytes.chunks(15) {
+        let shown: Vec<String> = chunk.iter().map(|byte| format!("{:02x}", byte)).collect();
+        writeln!(out, "        {}", shown.join(" "))?;
+    }
+    Ok(())
+}
+
+fn show_lines(stream: &[u8], out: &mut impl Write) -> io::Result<()> {
+    for (index, line) in lines(stream).enumerate() {
+        let shown: String = line.iter().flat_map(|&byte| std::ascii::escape_default(byte)).map(char::from).collect();
+        writeln!(out, "{:7} |{}|", index + 1, shown)?;
+    }
+    Ok(())
+}
