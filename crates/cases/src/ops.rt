@@ -1,6 +1,95 @@
-// The ops. One more is a function that lends its part of the arrays to the engine, and an arm of `answer`.
+// The ops. One more is an arm of `answer` and a function that lends the fronts of the arrays to the engine; none needs a proof file.
+ghost use Rattle.io.specs.Counts.{Counts};
 use crate::answer::Answer;
 use crate::head::Head;
+use crate::space::fill_bytes;
+use crate::space::front_bytes;
+use crate::space::front_words;
+use crate::space::sum_bytes;
+use crate::space::sum_words;
+use packing::Packing;
+use words::Compressed;
+use words::Expanded;
+
+fn packing_answer(p: Packing, room: &[u8]) -> Answer {
+    let sum = sum_bytes(room);
+    Answer::Numbers(packing::packing_number(p), packing::packing_value(p), 0, sum)
+}
+
+fn pack_into(source: &[u8], room: &mut [u8]) -> Answer {
+    fill_bytes(room);
+    let p = packing::pack_bytes(source, room);
+    packing_answer(p, room)
+}
+
+fn pack(head: Head, bytes: &[u8], file: &mut [u8]) -> Answer {
+    let n = front_bytes(head.first, bytes);
+    let room = front_bytes(head.room, file);
+    if n < head.first || room < head.room {
+        return Answer::Beyond;
+    }
+    pack_into(&bytes[..n], &mut file[..room])
+}
+
+fn unpack_into(source: &[u8], room: &mut [u8]) -> Answer {
+    fill_bytes(room);
+    let p = packing::unpack_bytes(source, room);
+    packing_answer(p, room)
+}
+
+fn unpack(head: Head, bytes: &[u8], file: &mut [u8]) -> Answer {
+    let n = front_bytes(head.first, bytes);
+    let room = front_bytes(head.room, file);
+    if n < head.first || room < head.room {
+        return Answer::Beyond;
+    }
+    unpack_into(&bytes[..n], &mut file[..room])
+}
+
+// As the fronts of slices, for the arrays of a text and of a line.
+fn front_text(n: usize, s: &[u64; 16]) -> usize
+    ensures { λ r. ⌜ Counts r (now (s .entry)) ⌝ }
+{
+    front_words(n, s)
+}
+
+fn front_line(n: usize, s: &[u8; 80]) -> usize
+    ensures { λ r. ⌜ Counts r (now (s .entry)) ⌝ }
+{
+    front_bytes(n, s)
+}
+
+fn compress(head: Head, bytes: &[u8]) -> Answer {
+    let n = front_bytes(head.first, bytes);
+    if n < head.first {
+        return Answer::Beyond;
+    }
+    let mut text = [0u64; 16];
+    let c = words::compress(&bytes[..n], &mut text);
+    match c {
+        Compressed::Words(count) => {
+            let k = front_text(count, &text);
+            Answer::Numbers(0, count as u64, 0, sum_words(&text[..k]))
+        }
+        _ => Answer::Numbers(words::compressed_number(c), 0, 0, 0),
+    }
+}
+
+fn expand(head: Head, words: &[u64]) -> Answer {
+    let n = front_words(head.first / 8, words);
+    if n * 8 < head.first {
+        return Answer::Beyond;
+    }
+    let mut line = [0u8; 80];
+    let e = words::expand(&words[..n], &mut line);
+    match e {
+        Expanded::Columns(count) => {
+            let k = front_line(count, &line);
+            Answer::Numbers(0, count as u64, 0, sum_bytes(&line[..k]))
+        }
+        Expanded::NoText => Answer::Numbers(words::expanded_number(e), 0, 0, 0),
+    }
+}
 
 pub fn answer(
     head: Head,
@@ -11,6 +100,10 @@ pub fn answer(
 ) -> Answer {
     let op = head.op;
     match op {
+        4 => pack(head, bytes, file),
+        5 => unpack(head, bytes, file),
+        6 => compress(head, bytes),
+        7 => expand(head, words),
         _ => Answer::NotCarried,
     }
 }

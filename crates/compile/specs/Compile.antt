@@ -11,9 +11,9 @@ use lib.ListN.{length, drop, replicate}
 use Rattle.words.specs.Base.{if_then_else_, bytes}
 use Rattle.words.specs.Display.{blank}
 use Rattle.words.specs.Names.{numeral}
-use Rattle.words.specs.Pack.{unpacking, unpacked, packingNumber}
-use Rattle.words.specs.declared.Packing.{Packing}
-use Rattle.words.specs.declared.Packing.the-variants.{Done as Unpacked, Length, Tail, Space as NoSpace}
+use Rattle.packing.specs.Pack.{unpacking, unpacked, packingNumber}
+use Rattle.packing.specs.declared.Packing.{Packing}
+use Rattle.packing.specs.declared.Packing.the-variants.{Done as Unpacked, Length, Tail, Space as NoSpace}
 use Rattle.library.specs.Library.{Library}
 use Rattle.library.specs.Check.{Checking, good, bad, check, faultNumber}
 use Rattle.library.specs.declared.Fault.{Fault}

@@ -1,7 +1,7 @@
 -- Each case computes to true.
 use Rattle.words.specs.Display.{codeOf, letter}
 use Rattle.words.specs.Names.{isName, nameWord, nameOf, isNameWord, wordOfName, nameLength, nameInto, isNumber, numberRead, numeral, leftJustified, rightJustified, numberInto}
-use Rattle.words.specs.Pack.{packing, unpacking, left, packingEights, unpackingEights}
+use Rattle.packing.specs.Pack.{packing, unpacking, left, packingEights, unpackingEights}
 use Rattle.words.specs.Text.{blanks, wordsOf, textWords, compressing, compressInto, says, isText, expanding, expandInto}
 use Rattle.lines.specs.Directive.{lineOf, afterLine, lines, kindOf, nameOfLine, kindOfLine, field, isClean, isCard, cardOf, asked, directive, yankNames, callOf}
 use Rattle.library.specs.Check.{check}

@@ -1,1 +1,5 @@
 pub mod Shown
+pub mod Demands
+pub mod Instances
+pub mod Cut
+pub mod CutShown

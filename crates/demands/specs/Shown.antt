@@ -11,7 +11,7 @@ use mathlib.Core.List.{List, [], _∷_, _++_, map}
 use lib.Dec.{T, eqb}
 use lib.ListN.{length, replicate}
 use Rattle.words.specs.Base.{bytes, all, same}
-use Rattle.words.specs.Pack.{packed, unpacked}
+use Rattle.packing.specs.Pack.{packed, unpacked}
 use Rattle.words.specs.Text.{compress, gap}
 use Rattle.library.specs.Library.{Library, fresh}
 use Rattle.library.specs.Image.{encode}

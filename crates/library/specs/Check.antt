@@ -12,7 +12,7 @@ use mathlib.Core.Option.{Option, none, some}
 use lib.Dec.{eqb, ltb, leb}
 use lib.ListN.{length, getD, take, drop}
 use Rattle.words.specs.Base.{if_then_else_, any, all, allOf, anyOf, member, same, isNil, placeFrom}
-use Rattle.words.specs.Pack.{isWord}
+use Rattle.words.specs.Base.{isWord}
 use Rattle.words.specs.Text.{says, isText}
 use Rattle.words.specs.Names.{isNameWord}
 use Rattle.lines.specs.Directive.{directive}

@@ -1,4 +1,10 @@
+pub mod Each
 pub mod Library
 pub mod Yanks
+pub mod Settled
 pub mod Image
 pub mod Check
+pub mod Sound
+pub mod Exact
+pub mod Growth
+pub mod Alike

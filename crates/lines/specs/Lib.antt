@@ -1,1 +1,4 @@
 pub mod Directive
+pub mod Reading
+pub mod Scan
+pub mod LineEnds

@@ -1,4 +1,18 @@
 // Lines and directives: from bytes to what a line asks.
+mod asks;
+mod kinds;
+mod names;
+mod parts;
+mod scan;
+mod stream;
+
+pub use asks::call_of;
+pub use asks::directive;
+pub use asks::line_number;
+pub use kinds::kind_of_line;
+pub use names::next_name;
+pub use parts::field_of;
+pub use stream::line_at;
 
 // What a directive's name asks for.
 pub enum Kind {
@@ -48,4 +62,10 @@ pub enum Call {
     Not,
     Of(u64),
     Malformed,
+}
+
+// What stands at a place of a field of names: a name's word, 0 where it is no name, and the next place; or no more.
+pub enum NameStep {
+    Name { word: u64, next: usize },
+    End,
 }

@@ -1,2 +1,6 @@
 pub mod Step
 pub mod Run
+pub mod Units
+pub mod RunSound
+pub mod Cut
+pub mod Kept

@@ -2,14 +2,15 @@
 --   choice        if_then_else_
 --   quoted text   bytes
 --   lists         any, all, allOf, anyOf, member, same, isNil, first, placeFrom
+--   words         isWord
 --   cutting       takeUntil, dropUntil, beyond, split
-use Prim.Native.Nat.{ℕ, zero, suc, _+_, _-_}
+use Prim.Native.Nat.{ℕ, zero, suc, _+_, _-_, _^_}
 use Prim.Native.String.{String, len, charAt}
 use Prim.Native.Char.{code}
 use mathlib.Core.Bool.{Bool, true, false, _&&_, _||_}
 use mathlib.Core.List.{List, [], _∷_}
 use mathlib.Core.Option.{Option, none, some}
-use lib.Dec.{eqb}
+use lib.Dec.{eqb, ltb}
 use lib.ListN.{drop}
 
 infixr 5 if_then_else_
@@ -80,3 +81,7 @@ into x (l ∷ ls) = (x ∷ l) ∷ ls
 abbrev pub split : (ℕ → Bool) → List ℕ → List (List ℕ)
 split p [] = [] ∷ []
 split p (x ∷ xs) = let rest = split p xs in if p x then ([] ∷ rest) else into x rest
+
+-- "A library is a run of 60-bit words, held one to a 64-bit number"
+abbrev pub isWord : ℕ → Bool
+isWord w = ltb w (2 ^ 60)

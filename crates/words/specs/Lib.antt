@@ -1,5 +1,6 @@
 pub mod Base
-pub mod Pack
 pub mod Display
 pub mod Text
 pub mod Names
+pub mod TextTrip
+pub mod NameTrip

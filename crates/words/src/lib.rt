@@ -1,15 +1,22 @@
-// Words of 60 bits and text: packing, the display code, compressed text, names and numbers.
+// Words of 60 bits and text: the display code, compressed text, names and numbers.
+mod codes;
+mod columns;
+mod display;
+mod names;
+mod text;
 
-// What packing or unpacking answers: how many bytes or words were written, or why not.
-pub enum Packing {
-    Done(usize),
-    // the length is not that of packed words, or not that of words of eight bytes
-    Length,
-    // the last 4 bits are not zero
-    Tail,
-    // too little space, or a word of 2^60 or more
-    Space,
-}
+pub use columns::in_set;
+pub use columns::trimmed;
+pub use display::code_of;
+pub use display::letter_of;
+pub use names::name_of_word;
+pub use names::number_read;
+pub use names::put_number;
+pub use names::word_of_name;
+pub use text::compress;
+pub use text::compressed_number;
+pub use text::expand;
+pub use text::expanded_number;
 
 // What compressing a line answers: how many words were written, or why not.
 pub enum Compressed {

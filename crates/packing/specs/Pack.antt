@@ -9,9 +9,9 @@ use mathlib.Core.Bool.{Bool, true, false, _&&_, _||_, not}
 use mathlib.Core.List.{List, [], _∷_, _++_}
 use lib.Dec.{eqb, ltb, leb}
 use lib.ListN.{length, getD, take, drop}
-use Rattle.words.specs.Base.{if_then_else_, all}
-use Rattle.words.specs.declared.Packing.{Packing}
-use Rattle.words.specs.declared.Packing.the-variants.{Done, Length, Tail, Space}
+use Rattle.words.specs.Base.{if_then_else_, all, isWord}
+use Rattle.packing.specs.declared.Packing.{Packing}
+use Rattle.packing.specs.declared.Packing.the-variants.{Done, Length, Tail, Space}
 
 -- the n lowest bytes of a number, highest first, and the number of bytes so written
 abbrev pub bytesOf : ℕ → ℕ → List ℕ
@@ -49,9 +49,6 @@ packedLength n = (15 * n + 1) / 2
 -- how many words so many bytes hold
 abbrev pub unpackedLength : ℕ → ℕ
 unpackedLength n = n * 2 / 15
-
-abbrev pub isWord : ℕ → Bool
-isWord w = ltb w (2 ^ 60)
 
 -- PACKING: 53 where a word is none of 60 bits, or the bytes do not fit
 unfoldable pub packing : List ℕ → ℕ → Packing

@@ -1,0 +1,2 @@
+pub mod ViewBack
+pub mod AlikeView

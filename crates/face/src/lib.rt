@@ -1,0 +1,28 @@
+// What C calls. Each function answers 01's number and sets its values through references, in both cases.
+ghost use mathlib.Core.Path.{_≡_};
+ghost use lib.ListN.{length};
+ghost use Rattle.packing.specs.Pack.{packingEights, unpackingEights, packEightsInto, unpackEightsInto, packingNumber, packingValue};
+
+// Words of eight bytes, packed.
+#[no_mangle]
+pub extern "C" fn galdwist_pack(words: &[u8], out: &mut [u8], written: &mut u64) -> u64
+    ensures number { λ r. ⌜ r ≡ packingNumber (packingEights (now (words .entry)) (length (now (out .entry)))) ⌝ }
+    ensures space { λ _. ⌜ now (out .exit) ≡ packEightsInto (now (words .entry)) (now (out .entry)) ⌝ }
+    ensures value { λ _. ⌜ now (written .exit) ≡ packingValue (packingEights (now (words .entry)) (length (now (out .entry)))) ⌝ }
+{
+    let answer = packing::pack_bytes(words, out);
+    *written = packing::packing_value(answer);
+    packing::packing_number(answer)
+}
+
+// Packed bytes, as words of eight bytes.
+#[no_mangle]
+pub extern "C" fn galdwist_unpack(bytes: &[u8], out: &mut [u8], written: &mut u64) -> u64
+    ensures number { λ r. ⌜ r ≡ packingNumber (unpackingEights (now (bytes .entry)) (length (now (out .entry)))) ⌝ }
+    ensures space { λ _. ⌜ now (out .exit) ≡ unpackEightsInto (now (bytes .entry)) (now (out .entry)) ⌝ }
+    ensures value { λ _. ⌜ now (written .exit) ≡ packingValue (unpackingEights (now (bytes .entry)) (length (now (out .entry)))) ⌝ }
+{
+    let answer = packing::unpack_bytes(bytes, out);
+    *written = packing::packing_value(answer);
+    packing::packing_number(answer)
+}

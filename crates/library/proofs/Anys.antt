@@ -1,0 +1,49 @@
+-- What `any` and `all` say of a member, and of a list in which none passes.
+use Prim.Native.Nat.{ℕ}
+use mathlib.Core.Path.{_≡_, refl, sym, ap, ap₂, _∙_, subst}
+use mathlib.Core.Bool.{Bool, true, false, _&&_, _||_}
+use mathlib.Core.List.{List, [], _∷_}
+use lib.Dec.{T, eqb, eqb→eq}
+use Rattle.words.specs.Base.{any, all, member}
+use Rattle.library.specs.Each.{Each}
+use Rattle.library.proofs.Each.{and-parts}
+
+pub or-true : (a : Bool) → (a || true) ≡ true
+or-true true = refl
+or-true false = refl
+
+pub or-false : (a : Bool) → (a || false) ≡ a
+or-false true = refl
+or-false false = refl
+
+pub and-true : (a : Bool) → (a && true) ≡ a
+and-true true = refl
+and-true false = refl
+
+pub and-false : (a : Bool) → (a && false) ≡ false
+and-false true = refl
+and-false false = refl
+
+pub or-either : {A : Type 0} (a b : Bool) → (T a → A) → (T b → A) → T (a || b) → A
+or-either true b f g t = f tt
+or-either false b f g t = g t
+
+pub any-false : {A : Type 0} (p : A → Bool) (xs : List A) → Each (λ x. p x ≡ false) xs → any p xs ≡ false
+any-false p [] h = refl
+any-false p (x ∷ xs) h = ap₂ _||_ (h .0) (any-false p xs (h .1))
+
+pub all-member : (p : ℕ → Bool) (ns : List ℕ) (n : ℕ) → T (member n ns) → T (all p ns) → T (p n)
+all-member p [] n t a = absurd t
+all-member p (x ∷ ns) n t a =
+    let q = and-parts (p x) (all p ns) a in
+    or-either (eqb n x) (member n ns) (λ u. subst (λ (m : ℕ). T (p m)) (sym (eqb→eq n x u)) (q .0)) (λ u. all-member p ns n u (q .1)) t
+
+pub any-member : (p : ℕ → Bool) (ns : List ℕ) (n : ℕ) → T (member n ns) → T (p n) → any p ns ≡ true
+any-member p [] n t q = absurd t
+any-member p (x ∷ ns) n t q =
+    or-either (eqb n x) (member n ns) (λ u. here (p x) (subst (λ (m : ℕ). T (p m)) (eqb→eq n x u) q))
+    (λ u. ap (λ (b : Bool). p x || b) (any-member p ns n u q) ∙ or-true (p x)) t
+  where
+    here : (a : Bool) → T a → (a || any p ns) ≡ true
+    here true t = refl
+    here false t = absurd t

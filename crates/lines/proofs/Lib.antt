@@ -1,0 +1,12 @@
+pub mod Asking
+pub mod Calling
+pub mod Cutting
+pub mod Fields
+pub mod Parting
+pub mod Readings
+pub mod Streams
+pub mod Tabled
+pub mod Walking
+pub mod Asked
+pub mod Trimmed
+pub mod LinesAppend

@@ -1,0 +1,20 @@
+// Words of 60 bits packed to bytes and back.
+mod packer;
+
+pub use packer::pack;
+pub use packer::pack_bytes;
+pub use packer::packing_number;
+pub use packer::packing_value;
+pub use packer::unpack;
+pub use packer::unpack_bytes;
+
+// What packing or unpacking answers: how many bytes or words were written, or why not.
+pub enum Packing {
+    Done(usize),
+    // the length is not that of packed words, or not that of words of eight bytes
+    Length,
+    // the last 4 bits are not zero
+    Tail,
+    // too little space, or a word of 2^60 or more
+    Space,
+}

@@ -1,0 +1,17 @@
+pub mod Went
+pub mod Grows
+pub mod SameDecks
+pub mod YankingSet
+pub mod Updates
+pub mod Spots
+pub mod MadeCards
+pub mod Parts
+pub mod NewCards
+pub mod Marks
+pub mod UnitSound
+pub mod StepSound
+pub mod StepsCut
+pub mod CardsAdded
+pub mod NoUnits
+pub mod RunFrom
+pub mod Kept

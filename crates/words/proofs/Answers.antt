@@ -1,0 +1,78 @@
+-- What compressing and expanding answer, one law for each way out. Assumes nothing.
+use Prim.Native.Nat.{ℕ, _≤_, _<_}
+use native.Mathlib.Omega.{arith}
+use mathlib.Core.Path.{_≡_, refl, sym, ap}
+use mathlib.Core.Bool.{Bool, true, false, _&&_}
+use mathlib.Core.List.{List, _++_}
+use borrow.Author.Tests.{lt-ltb, le-ltb, lt-leb, le-leb}
+use lib.Dec.{leb, leb→le}
+use lib.ListN.{length, drop}
+use Rattle.words.specs.Base.{all, same}
+use Rattle.words.specs.Display.{inChart}
+use Rattle.words.specs.Text.{textWords, compressing, compressInto, says, isText, expanding, expandInto}
+use Rattle.words.specs.declared.Compressed.the-variants.{Words, Outside, Long}
+use Rattle.words.specs.declared.Expanded.the-variants.{Columns, NoText}
+use Rattle.words.proofs.TextTrip.{text-short, written-says, written-fits}
+
+-- COMPRESSING
+module _ (l d : List ℕ) where
+  pub outside : all inChart l ≡ false → (Outside ≡ compressing l) × (d ≡ compressInto l d)
+  unfolding compressing compressInto
+  outside e =
+      let q : compressing l ≡ Outside = rw e in
+      (sym q, rw (compressInto, q))
+
+  pub long : all inChart l ≡ true → 80 < length l → (Long ≡ compressing l) × (d ≡ compressInto l d)
+  unfolding compressing compressInto
+  long e h =
+      let q : compressing l ≡ Long = rw (e, lt-ltb 80 (length l) h) in
+      (sym q, rw (compressInto, q))
+
+  pub words : (t : List ℕ) (r : ℕ) → all inChart l ≡ true → length l ≤ 80 → (r ≡ length (textWords l)) × (t ≡ textWords l ++ drop r d)
+      → (Words r ≡ compressing l) × (t ≡ compressInto l d)
+  unfolding compressing compressInto
+  words t r e h w =
+      let q : compressing l ≡ Words r = rw (e, le-ltb 80 (length l) h) (ap Words (sym (w .0))) in
+      (sym q, rw (compressInto, q) (w .1))
+
+-- WHERE WORDS ARE NO TEXT
+-- 80 columns give at most 16 words
+pub long-text : (ws : List ℕ) → 16 < length ws → isText ws ≡ false
+long-text ws h = go (isText ws) refl
+  where
+    go : (c : Bool) → isText ws ≡ c → c ≡ false
+    go true e =
+        let n : length (says ws) ≤ 80 = leb→le (length (says ws)) 80 (text-short ws e) in
+        absurd (omega (arith, ap length (written-says ws e), written-fits (says ws) n))
+    go false e = refl
+
+pub long-line : (ws : List ℕ) → 80 < length (says ws) → isText ws ≡ false
+unfolding isText
+long-line ws h = rw (lt-leb (length (says ws)) 80 h)
+
+pub other-text : (ws : List ℕ) → same (textWords (says ws)) ws ≡ false → isText ws ≡ false
+unfolding isText
+other-text ws e = rw e (go (leb (length (says ws)) 80))
+  where
+    go : (c : Bool) → (c && false) ≡ false
+    go true = refl
+    go false = refl
+
+pub same-text : (ws : List ℕ) → length (says ws) ≤ 80 → same (textWords (says ws)) ws ≡ true → isText ws ≡ true
+unfolding isText
+same-text ws h e = rw (le-leb (length (says ws)) 80 h, e)
+
+-- EXPANDING
+module _ (ws d : List ℕ) where
+  pub no-text : isText ws ≡ false → (NoText ≡ expanding ws) × (d ≡ expandInto ws d)
+  unfolding expanding expandInto
+  no-text e =
+      let q : expanding ws ≡ NoText = rw e in
+      (sym q, rw (expandInto, q))
+
+  pub columns : (t : List ℕ) (r : ℕ) → isText ws ≡ true → r ≡ length (says ws) → t ≡ says ws ++ drop r d
+      → (Columns r ≡ expanding ws) × (t ≡ expandInto ws d)
+  unfolding expanding expandInto
+  columns t r e n w =
+      let q : expanding ws ≡ Columns r = rw e (ap Columns (sym n)) in
+      (sym q, rw (expandInto, q) w)

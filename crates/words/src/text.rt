@@ -1,0 +1,314 @@
+// Compressed text (01, "Text"): a line to words and words to a line.
+ghost use mathlib.Core.Path.{_≡_};
+ghost use mathlib.Core.Bool.{true};
+ghost use mathlib.Core.List.{[], _∷_, _++_, map};
+ghost use Prim.Native.Nat.{_+_, _*_, _≤_, _<_};
+ghost use lib.ListN.{length, getD, take, drop, replicate};
+ghost use Rattle.words.specs.Base.{all, same};
+ghost use Rattle.words.specs.Display.{codeOf, inChart, letter};
+ghost use Rattle.words.specs.Text.{shortRun, blanks, sign, squeeze, compress, textWords, compressing, compressInto, compressedNumber, allCodes, columnsOf, says, expanding, expandInto, expandedNumber};
+use crate::Compressed;
+use crate::Expanded;
+use crate::codes::TEN;
+use crate::codes::code_in;
+use crate::codes::fill;
+use crate::columns::in_set;
+use crate::columns::put_bytes;
+use crate::columns::put_columns;
+use crate::columns::trimmed;
+use crate::display::BLANK;
+use crate::display::GAP;
+use crate::display::code_of;
+use crate::display::letter_of;
+
+const COLUMNS: usize = 80;
+
+const WORDS: usize = 16;
+
+// 01's numbers
+const DONE: u64 = 0;
+
+const OUTSIDE: u64 = 20;
+
+const LONG: u64 = 21;
+
+const NO_TEXT: u64 = 6;
+
+const COLON: u8 = b':';
+
+// a line has at most two codes for each column
+const CODES: usize = 160;
+
+// the most blanks that one run stands for
+const RUN: usize = 64;
+
+fn put_one(a: u8, codes: &mut [u8], at: usize) -> usize
+    requires { ⌜ at < length (now codes) ⌝ }
+    ensures { λ r. ⌜ r ≡ at + 1 ⌝ }
+    ensures { λ r. ⌜ take r (now (codes .exit)) ≡ take at (now (codes .entry)) ++ (a ∷ []) ⌝ }
+{
+    codes[at] = a;
+    at + 1
+}
+
+fn put_two(a: u8, b: u8, codes: &mut [u8], at: usize) -> usize
+    requires { ⌜ at + 1 < length (now codes) ⌝ }
+    ensures { λ r. ⌜ r ≡ at + 2 ⌝ }
+    ensures { λ r. ⌜ take r (now (codes .exit)) ≡ take at (now (codes .entry)) ++ (a ∷ b ∷ []) ⌝ }
+{
+    let next = put_one(a, codes, at);
+    put_one(b, codes, next)
+}
+
+// A run of at most 64 blanks.
+fn put_run(n: usize, codes: &mut [u8], at: usize) -> usize
+    requires { ⌜ n ≤ 64 ⌝ }
+    requires { ⌜ at + n ≤ length (now codes) ⌝ }
+    ensures { λ r. ⌜ r ≡ at + length (shortRun n) ⌝ }
+    ensures { λ r. ⌜ take r (now (codes .exit)) ≡ take at (now (codes .entry)) ++ shortRun n ⌝ }
+{
+    if n == 0 {
+        return at;
+    }
+    if n == 1 {
+        return put_one(GAP, codes, at);
+    }
+    if n == 2 {
+        return put_two(GAP, GAP, codes, at);
+    }
+    put_two(0, (n - 1) as u8, codes, at)
+}
+
+// A run of blanks inside a line, which has fewer than 128.
+fn put_blanks(n: usize, codes: &mut [u8], at: usize) -> usize
+    requires { ⌜ n ≤ 128 ⌝ }
+    requires { ⌜ at + n ≤ length (now codes) ⌝ }
+    ensures { λ r. ⌜ r ≡ at + length (blanks n) ⌝ }
+    ensures { λ r. ⌜ take r (now (codes .exit)) ≡ take at (now (codes .entry)) ++ blanks n ⌝ }
+{
+    if n <= RUN {
+        return put_run(n, codes, at);
+    }
+    let next = put_two(0, 0o77, codes, at);
+    put_run(n - RUN, codes, next)
+}
+
+fn put_sign(c: u8, codes: &mut [u8], at: usize) -> usize
+    requires { ⌜ at + 1 < length (now codes) ⌝ }
+    ensures { λ r. ⌜ r ≡ at + length (sign c []) ⌝ }
+    ensures { λ r. ⌜ take r (now (codes .exit)) ≡ take at (now (codes .entry)) ++ sign c [] ⌝ }
+{
+    if c == 0 {
+        put_two(0, 1, codes, at)
+    } else {
+        put_one(c, codes, at)
+    }
+}
+
+// The code of a leading blank, which no run takes in: answers the columns that it stands for.
+fn put_lead(line: &[u8], codes: &mut [u8]) -> usize
+    requires { ⌜ 0 < length (now codes) ⌝ }
+    ensures { λ r. ⌜ r ≤ 1 ⌝ }
+    ensures { λ r. ⌜ r ≤ length (now (line .entry)) ⌝ }
+    ensures { λ r. ⌜ take r (now (codes .exit)) ++ squeeze 0 (map codeOf (drop r (now (line .entry)))) ≡ compress (map codeOf (now (line .entry))) ⌝ }
+{
+    if line.len() == 0 {
+        return 0;
+    }
+    if code_of(line[0]) == GAP {
+        return put_one(GAP, codes, 0);
+    }
+    0
+}
+
+// The codes of a line, with n blanks passed that are not written yet: they are none at the line's end.
+fn put_line(line: &[u8], codes: &mut [u8]) -> usize
+    requires { ⌜ length (now line) ≤ 80 ⌝ }
+    requires { ⌜ length (now codes) ≡ 160 ⌝ }
+    ensures { λ r. ⌜ r ≤ 160 ⌝ }
+    ensures { λ r. ⌜ take r (now (codes .exit)) ≡ compress (map codeOf (now (line .entry))) ⌝ }
+{
+    let mut at = put_lead(line, codes);
+    let mut i = at;
+    let mut n = 0;
+    while i < line.len() {
+        let c = code_of(line[i]);
+        i += 1;
+        if c == GAP {
+            n += 1;
+        } else {
+            let next = put_blanks(n, codes, at);
+            at = put_sign(c, codes, next);
+            n = 0;
+        }
+    }
+    at
+}
+
+// The words of a line of at most 80 columns, all of the set.
+fn write(line: &[u8], text: &mut [u64]) -> usize
+    requires { ⌜ all inChart (now line) ≡ true ⌝ }
+    requires { ⌜ length (now line) ≤ 80 ⌝ }
+    requires { ⌜ 16 ≤ length (now text) ⌝ }
+    ensures { λ r. ⌜ r ≡ length (textWords (now (line .entry))) ⌝ }
+    ensures { λ r. ⌜ now (text .exit) ≡ textWords (now (line .entry)) ++ drop r (now (text .entry)) ⌝ }
+{
+    let mut codes = [0u8; CODES];
+    let n = put_line(trimmed(line), &mut codes);
+    fill(&codes[..n], text)
+}
+
+pub fn compress(line: &[u8], text: &mut [u64; WORDS]) -> Compressed
+    ensures { λ r. ⌜ r ≡ compressing (now (line .entry)) ⌝ }
+    ensures { λ _. ⌜ now (text .exit) ≡ compressInto (now (line .entry)) (now (text .entry)) ⌝ }
+{
+    if !in_set(line) {
+        return Compressed::Outside;
+    }
+    if COLUMNS < line.len() {
+        return Compressed::Long;
+    }
+    Compressed::Words(write(line, text))
+}
+
+pub fn compressed_number(c: Compressed) -> u64
+    ensures { λ r. ⌜ r ≡ compressedNumber c ⌝ }
+{
+    match c {
+        Compressed::Words(_) => DONE,
+        Compressed::Outside => OUTSIDE,
+        Compressed::Long => LONG,
+    }
+}
+
+// The code at a place of a text, 0 past its end.
+fn code_at(text: &[u64], k: usize) -> u8
+    ensures { λ r. ⌜ r ≡ getD (allCodes (now (text .entry))) k 0 ⌝ }
+{
+    let j = k / TEN;
+    if j < text.len() {
+        code_in(text[j], k % TEN)
+    } else {
+        0
+    }
+}
+
+// Columns of one byte, and how many codes say them. At 0000 the line ends: no columns, and all the codes that are left.
+struct Run {
+    byte: u8,
+    count: usize,
+    codes: usize,
+}
+
+fn run_at(text: &[u64], k: usize) -> Run
+    requires { ⌜ length (now text) ≤ 16 ⌝ }
+    requires { ⌜ k < length (now text) * 10 ⌝ }
+    ensures { λ r. ⌜ 0 < r .codes ⌝ }
+    ensures { λ r. ⌜ k + r .codes ≤ length (now (text .entry)) * 10 ⌝ }
+    ensures { λ r. ⌜ map letter (columnsOf (drop k (allCodes (now (text .entry))))) ≡ replicate (r .count) (r .byte) ++ map letter (columnsOf (drop (k + r .codes) (allCodes (now (text .entry))))) ⌝ }
+{
+    let c = code_at(text, k);
+    if c != 0 {
+        return Run {
+            byte: letter_of(c),
+            count: 1,
+            codes: 1,
+        };
+    }
+    let y = code_at(text, k + 1);
+    if y == 0 {
+        return Run {
+            byte: BLANK,
+            count: 0,
+            codes: text.len() * TEN - k,
+        };
+    }
+    if y == 1 {
+        return Run {
+            byte: COLON,
+            count: 1,
+            codes: 2,
+        };
+    }
+    Run {
+        byte: BLANK,
+        count: y as usize + 1,
+        codes: 2,
+    }
+}
+
+// The columns that a text says, or that they are more than 80.
+fn say(text: &[u64], line: &mut [u8]) -> usize
+    requires { ⌜ length (now text) ≤ 16 ⌝ }
+    requires { ⌜ length (now line) ≡ 80 ⌝ }
+    ensures { λ r. ⌜ (r ≤ 80 → take r (now (line .exit)) ≡ says (now (text .entry))) ⌝ }
+    ensures { λ r. ⌜ (80 < r → 80 < length (says (now (text .entry)))) ⌝ }
+{
+    let n = text.len() * TEN;
+    let mut at = 0;
+    let mut k = 0;
+    while k < n {
+        let run = run_at(text, k);
+        let count = run.count;
+        if COLUMNS - at < count {
+            return COLUMNS + 1;
+        }
+        at = put_columns(run.byte, count, line, at);
+        k += run.codes;
+    }
+    at
+}
+
+fn same_words(a: &[u64], b: &[u64]) -> bool
+    ensures { λ r. ⌜ r ≡ same (now (a .entry)) (now (b .entry)) ⌝ }
+{
+    if a.len() != b.len() {
+        return false;
+    }
+    let mut i = 0;
+    while i < a.len() {
+        if a[i] != b[i] {
+            return false;
+        }
+        i += 1;
+    }
+    true
+}
+
+fn is_written(line: &[u8], text: &[u64]) -> bool
+    requires { ⌜ all inChart (now line) ≡ true ⌝ }
+    requires { ⌜ length (now line) ≤ 80 ⌝ }
+    ensures { λ r. ⌜ r ≡ same (textWords (now (line .entry))) (now (text .entry)) ⌝ }
+{
+    let mut words = [0u64; WORDS];
+    let n = write(line, &mut words);
+    same_words(&words[..n], text)
+}
+
+pub fn expand(text: &[u64], line: &mut [u8; COLUMNS]) -> Expanded
+    ensures { λ r. ⌜ r ≡ expanding (now (text .entry)) ⌝ }
+    ensures { λ _. ⌜ now (line .exit) ≡ expandInto (now (text .entry)) (now (line .entry)) ⌝ }
+{
+    if WORDS < text.len() {
+        return Expanded::NoText;
+    }
+    let mut said = [0u8; COLUMNS];
+    let n = say(text, &mut said);
+    if COLUMNS < n {
+        return Expanded::NoText;
+    }
+    if !is_written(&said[..n], text) {
+        return Expanded::NoText;
+    }
+    put_bytes(&said[..n], line, 0);
+    Expanded::Columns(n)
+}
+
+pub fn expanded_number(e: Expanded) -> u64
+    ensures { λ r. ⌜ r ≡ expandedNumber e ⌝ }
+{
+    match e {
+        Expanded::Columns(_) => DONE,
+        Expanded::NoText => NO_TEXT,
+    }
+}
