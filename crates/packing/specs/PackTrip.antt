@@ -1,4 +1,4 @@
--- What packing keeps (01, "Words"). Each statement is proved in proofs/Roundtrip.antt.
+-- What packing keeps (01, "Words"). Each statement is proved in proofs/PackTrip.antt.
 --   there and back      UnpackPacked, PackUnpacked
 --   and accepted        PackedAccepted, UnpackedAccepted
 --   how long            PackedLength, UnpackedLength
