@@ -5,10 +5,10 @@ use std::io::{self, Write};
 
 use crate::check::check;
 use crate::compile::compile;
-use crate::lines::lines;
+use crate::lines::{call, lines, read, CardName, Kind, Line};
 use crate::refusal::{Number, Refusal};
 use crate::run::run;
-use crate::text::{compress, expand};
+use crate::text::{code, compress, expand, COLUMNS};
 use crate::words::{from_bytes, pack_bytes, to_bytes, unpack_bytes};
 
 pub const CHECK: u8 = 1;
@@ -18,6 +18,7 @@ pub const PACK: u8 = 4;
 pub const UNPACK: u8 = 5;
 pub const COMPRESS: u8 = 6;
 pub const EXPAND: u8 = 7;
+pub const LINE: u8 = 8;
 
 const HEAD: usize = 13;
 /// What each byte of a lent space holds before the call.
@@ -91,9 +92,40 @@ impl Case {
                 Some(line) => done(line.len(), 0, byte_sum(&line, line.len())),
                 None => refused(Refusal::new(Number::TextForm, 0), 0),
             },
+            LINE => match asked(&self.first) {
+                Ok((kind, words)) => done(kind, words.len(), space_sum(&to_halves(&words), words.len() * 2, LENT_HALF)),
+                Err(number) => refused(Refusal::new(number, 0), 0),
+            },
             op => panic!("no op {}", op),
         }
     }
+}
+
+/// What a line asks: the number of its kind, and the words that it names.
+fn asked(line: &[u8]) -> Result<(usize, Vec<u64>), Number> {
+    if line.iter().any(|&byte| code(byte).is_none()) {
+        return Err(Number::Character);
+    }
+    if line.len() > COLUMNS {
+        return Err(Number::Columns);
+    }
+    let card = |card: CardName| vec![card.owner.word(), u64::from(card.sequence)];
+    Ok(match read(line)? {
+        Line::Text => match call(line) {
+            None => (0, vec![]),
+            Some(Ok(name)) => (0, vec![1, name.word()]),
+            Some(Err(_)) => (0, vec![2]),
+        },
+        Line::Skipped => (1, vec![]),
+        Line::Unit(Kind::Deck, name) => (2, vec![name.word()]),
+        Line::Unit(Kind::Comdeck, name) => (3, vec![name.word()]),
+        Line::Unit(Kind::Ident, name) => (4, vec![name.word()]),
+        Line::Insert(at) => (5, card(at)),
+        Line::Before(at) => (6, card(at)),
+        Line::Delete(first, last) => (7, [card(first), card(last)].concat()),
+        Line::Restore(first, last) => (8, [card(first), card(last)].concat()),
+        Line::Yank(names) => (9, names.into_iter().map(|name| name.word()).collect()),
+    })
 }
 
 fn done(first: usize, second: usize, sum: u64) -> Answer {
@@ -186,7 +218,7 @@ pub fn write_shown(file: &[u8], out: &mut impl Write) -> io::Result<()> {
         writeln!(out, "case {}: op {} room {}", index + 1, case.op, case.room)?;
         match case.op {
             UNPACK => show_bytes(&case.first, out)?,
-            COMPRESS => show_lines(&case.first, out)?,
+            COMPRESS | LINE => show_lines(&case.first, out)?,
             _ => show_words(&case.first, out)?,
         }
         show_lines(&case.second, out)?;

@@ -1,4 +1,4 @@
-// A test program: answers the cases on standard input with the engine, one line for each (tests/README.md).
+// A test program: answers the cases on standard input with the engine, one line for each (tests/CASES.md).
 //
 //     op:u8  room:u32  n1:u32  n2:u32  blob1[n1]  blob2[n2]        numbers are little-endian
 //
@@ -7,6 +7,7 @@
 mod answer;
 mod feed;
 mod head;
+mod line;
 mod ops;
 mod space;
 

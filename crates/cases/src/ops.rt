@@ -13,7 +13,12 @@ use words::Expanded;
 
 fn packing_answer(p: Packing, room: &[u8]) -> Answer {
     let sum = sum_bytes(room);
-    Answer::Numbers(packing::packing_number(p), packing::packing_value(p), 0, sum)
+    Answer::Numbers(
+        packing::packing_number(p),
+        packing::packing_value(p),
+        0,
+        sum,
+    )
 }
 
 fn pack_into(source: &[u8], room: &mut [u8]) -> Answer {
@@ -91,6 +96,14 @@ fn expand(head: Head, words: &[u64]) -> Answer {
     }
 }
 
+fn line(head: Head, bytes: &[u8]) -> Answer {
+    let n = front_bytes(head.first, bytes);
+    if n < head.first {
+        return Answer::Beyond;
+    }
+    crate::line::line(&bytes[..n])
+}
+
 pub fn answer(
     head: Head,
     words: &[u64],
@@ -104,6 +117,7 @@ pub fn answer(
         5 => unpack(head, bytes, file),
         6 => compress(head, bytes),
         7 => expand(head, words),
+        8 => line(head, bytes),
         _ => Answer::NotCarried,
     }
 }

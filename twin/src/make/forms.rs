@@ -3,7 +3,7 @@
 
 use super::libraries::{made_by, EXAMPLE};
 use super::random::Random;
-use crate::cases::Case;
+use crate::cases::{Case, LINE};
 use crate::compile::LINE_BYTES;
 use crate::library::Library;
 use crate::lines::{read, Line, NOT_CARRIED};
@@ -42,6 +42,9 @@ const APT: [(&[&str], &[&str]); 5] = [
     (&["CALL", "CA"], &["Q", "P", "S", "Z", "YANK$$$", "Q,Q", "Q.2", ""]),
 ];
 
+/// Bytes that the character set has not.
+const OUTSIDE: [u8; 10] = [0, 9, 10, 13, 31, b'a', b'`', 127, 128, 255];
+
 const TAILS: [&str; 12] = ["", "", "", "", "", " ", "     ", " JUNK", ",", " ,", ";", "."];
 
 const AHEAD: [&str; 9] = [
@@ -73,6 +76,19 @@ pub fn case(random: &mut Random, index: usize) -> Case {
             Case::compile(&with_text(random, library, &line).image(), room)
         }
     }
+}
+
+/// A line alone; some have a byte outside the set, or run past column 80.
+pub fn line_case(random: &mut Random, index: usize) -> Case {
+    let mut line = line(random, index);
+    if random.chance(8) {
+        let at = random.below(line.len() + 1);
+        line.insert(at, OUTSIDE[random.below(OUTSIDE.len())]);
+    }
+    if random.chance(8) {
+        line.resize(random.within(COLUMNS - 1, COLUMNS + 3).max(line.len()), b' ');
+    }
+    Case::bytes(LINE, 0, line)
 }
 
 /// A line of the name at an index, all names in turn, or of good form.

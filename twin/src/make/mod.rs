@@ -25,6 +25,7 @@ pub use random::Random;
 pub enum Sort {
     Mix,
     Words,
+    Forms,
     Lines,
     Check,
     Run,
@@ -36,6 +37,7 @@ impl Sort {
     pub fn of_name(name: &str) -> Option<Sort> {
         match name {
             "words" => Some(Sort::Words),
+            "forms" => Some(Sort::Forms),
             "lines" => Some(Sort::Lines),
             "check" => Some(Sort::Check),
             "run" => Some(Sort::Run),
@@ -59,6 +61,7 @@ pub fn write_cases(seed: u64, count: usize, sort: Sort, out: &mut impl Write) ->
 pub fn case(random: &mut Random, index: usize, sort: Sort) -> Case {
     match sort {
         Sort::Words => packing::case(random, index),
+        Sort::Forms => forms::line_case(random, index),
         Sort::Lines => forms::case(random, index),
         Sort::Check => check_case(random, index),
         Sort::Run => run_case(random),
@@ -67,7 +70,8 @@ pub fn case(random: &mut Random, index: usize, sort: Sort) -> Case {
         Sort::Mix => {
             let sort = match random.below(100) {
                 0..=13 => Sort::Words,
-                14..=33 => Sort::Lines,
+                14..=17 => Sort::Forms,
+                18..=33 => Sort::Lines,
                 34..=51 => Sort::Check,
                 52..=81 => Sort::Run,
                 _ => Sort::Compile,

@@ -1,0 +1,136 @@
+// Op 8: what a line asks, as the number of its kind and the words that it names (tests/CASES.md).
+ghost use Rattle.io.specs.Counts.{Counts};
+use crate::answer::Answer;
+use crate::space::front_words;
+use crate::space::sum_words;
+use lines::Call;
+use lines::Line;
+use lines::NameStep;
+
+const TEXT: u64 = 0;
+
+const YANK: u64 = 9;
+// more names than 80 columns hold
+const NAMES: usize = 64;
+
+// A line's kind, and its first so many of four words.
+struct Asked {
+    kind: u64,
+    count: usize,
+    words: [u64; 4],
+}
+
+fn told(l: Line) -> Asked {
+    match l {
+        Line::Skipped => Asked {
+            kind: 1,
+            count: 0,
+            words: [0, 0, 0, 0],
+        },
+        Line::Deck(w) => Asked {
+            kind: 2,
+            count: 1,
+            words: [w, 0, 0, 0],
+        },
+        Line::Comdeck(w) => Asked {
+            kind: 3,
+            count: 1,
+            words: [w, 0, 0, 0],
+        },
+        Line::Ident(w) => Asked {
+            kind: 4,
+            count: 1,
+            words: [w, 0, 0, 0],
+        },
+        Line::Insert(c) => Asked {
+            kind: 5,
+            count: 2,
+            words: [c.name, c.seq, 0, 0],
+        },
+        Line::Before(c) => Asked {
+            kind: 6,
+            count: 2,
+            words: [c.name, c.seq, 0, 0],
+        },
+        Line::Delete(a, b) => Asked {
+            kind: 7,
+            count: 4,
+            words: [a.name, a.seq, b.name, b.seq],
+        },
+        Line::Restore(a, b) => Asked {
+            kind: 8,
+            count: 4,
+            words: [a.name, a.seq, b.name, b.seq],
+        },
+        Line::Yank => Asked {
+            kind: YANK,
+            count: 0,
+            words: [0, 0, 0, 0],
+        },
+        _ => Asked {
+            kind: TEXT,
+            count: 0,
+            words: [0, 0, 0, 0],
+        },
+    }
+}
+
+fn summed(kind: u64, words: &[u64], count: usize) -> Answer {
+    let n = front_words(count, words);
+    Answer::Numbers(0, kind, n as u64, sum_words(&words[..n]))
+}
+
+fn put_names(field: &[u8], names: &mut [u64; NAMES]) -> usize {
+    let mut at = 0;
+    let mut n = 0;
+    while n < NAMES {
+        match lines::next_name(field, at) {
+            NameStep::Name { word, next } => {
+                names[n] = word;
+                at = next;
+                n += 1;
+            }
+            NameStep::End => {
+                return n;
+            }
+        }
+    }
+    n
+}
+
+fn summed_names(names: &[u64; NAMES], count: usize) -> Answer {
+    summed(YANK, names, count)
+}
+
+fn yank(line: &[u8]) -> Answer {
+    let mut names = [0u64; NAMES];
+    let n = put_names(lines::field_of(line), &mut names);
+    summed_names(&names, n)
+}
+
+// A text line is a CALL's or no CALL: its words are 1 and the name, or 2 for a malformed one.
+fn text(line: &[u8]) -> Answer {
+    match lines::call_of(line) {
+        Call::Not => summed(TEXT, &[0, 0], 0),
+        Call::Of(w) => summed(TEXT, &[1, w], 2),
+        Call::Malformed => summed(TEXT, &[2, 0], 1),
+    }
+}
+
+pub fn line(line: &[u8]) -> Answer {
+    let l = lines::directive(line);
+    let number = lines::line_number(l);
+    if number != 0 {
+        return Answer::Numbers(number, 0, 0, 0);
+    }
+    let t = told(l);
+    let kind = t.kind;
+    if kind == TEXT {
+        return text(line);
+    }
+    if kind == YANK {
+        return yank(line);
+    }
+    let words = t.words;
+    summed(kind, &words, t.count)
+}
