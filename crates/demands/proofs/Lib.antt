@@ -5,3 +5,4 @@ pub mod TakenBack
 pub mod Instances
 pub mod Cut
 pub mod CutShown
+pub mod Promised

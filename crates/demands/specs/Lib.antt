@@ -3,3 +3,4 @@ pub mod Demands
 pub mod Instances
 pub mod Cut
 pub mod CutShown
+pub mod Promises

@@ -1,0 +1,53 @@
+-- Every promise is kept: each field by the theorem that proves it.
+use Rattle.words.proofs.TextTrip.{says-written, written-is-text, written-fits, written-says, letter-of-code, code-of-letter}
+use Rattle.words.proofs.NameTrip.{name-of-word, word-of-its-name, read-of-written}
+use Rattle.packing.proofs.PackTrip.{unpack-packed, pack-unpacked, packed-accepted, unpacked-accepted, packed-length, unpacked-length, words-eights, eights-words}
+use Rattle.library.proofs.Exact.{check-exact, encode-once}
+use Rattle.library.proofs.YankedUnique.{yanked-solves, yanked-unique}
+use Rattle.run.proofs.Kept.{run-passes, run-keeps, run-idle}
+use Rattle.demands.specs.Promises.{Promises}
+use Rattle.demands.proofs.Answers.{inactive-text}
+use Rattle.demands.proofs.Shown.{all-hold}
+use Rattle.demands.proofs.TakenBack.{taken-back, restored}
+use Rattle.demands.proofs.Cut.{cut-parts}
+use Rattle.demands.proofs.Instances.{shown-back, none-spare}
+use Rattle.demands.proofs.CutShown.{shown-cut, none-spare-cut, size-needed}
+
+pub promised : Promises
+promised =
+    record {
+      says-written = says-written;
+      written-is-text = written-is-text;
+      written-fits = written-fits;
+      written-says = written-says;
+      letter-of-code = letter-of-code;
+      code-of-letter = code-of-letter;
+      name-of-word = name-of-word;
+      word-of-name = word-of-its-name;
+      read-of-written = read-of-written;
+      unpack-packed = unpack-packed;
+      pack-unpacked = pack-unpacked;
+      packed-accepted = packed-accepted;
+      unpacked-accepted = unpacked-accepted;
+      packed-length = packed-length;
+      unpacked-length = unpacked-length;
+      words-eights = words-eights;
+      eights-words = eights-words;
+      check-exact = check-exact;
+      encode-once = encode-once;
+      yanked-solves = yanked-solves;
+      yanked-unique = yanked-unique;
+      run-passes = run-passes;
+      run-keeps = run-keeps;
+      run-idle = run-idle;
+      inactive-text = inactive-text;
+      all-hold = all-hold;
+      taken-back = taken-back;
+      restored = restored;
+      cut-parts = cut-parts;
+      shown-back = shown-back;
+      none-spare = none-spare;
+      shown-cut = shown-cut;
+      none-spare-cut = none-spare-cut;
+      size-needed = size-needed;
+    }

@@ -1,0 +1,66 @@
+-- Everything that the customer was promised, in the order of the three demands, in one record. Read this first; each field's type is a statement
+-- with its own words in the file that the `use` lines name.
+--   Promises
+use Rattle.words.specs.TextTrip.{SaysWritten, WrittenIsText, WrittenFits, WrittenSays, LetterOfCode, CodeOfLetter}
+use Rattle.words.specs.NameTrip.{NameOfWord, WordOfItsName, ReadOfWritten}
+use Rattle.packing.specs.PackTrip.{UnpackPacked, PackUnpacked, PackedAccepted, UnpackedAccepted, PackedLength, UnpackedLength, WordsEights, EightsWords}
+use Rattle.library.specs.Exact.{CheckExact, EncodeOnce, YankedSolves, YankedUnique}
+use Rattle.run.specs.Kept.{R4, R5, RunIdle}
+use Rattle.demands.specs.Demands.{B1, B2, R6}
+use Rattle.demands.specs.Cut.{B3}
+use Rattle.demands.specs.Shown.{AllHold}
+use Rattle.demands.specs.Instances.{ShownBack, NoneSpare}
+use Rattle.demands.specs.CutShown.{ShownCut, NoneSpareCut, SizeNeeded}
+
+pub record Promises : Type 0 where
+  -- DEMAND 2: line to card and back, words to packed bytes and back, nothing is gained or lost.
+  -- R1: the words of a line say the line without its trailing blanks; for 0 to 80 columns they are accepted, and at most 16; accepted words are
+  -- the words of the line that they say.
+  pub says-written : SaysWritten
+  pub written-is-text : WrittenIsText
+  pub written-fits : WrittenFits
+  pub written-says : WrittenSays
+  -- The chart has each byte once; a name's word spells the name and a name spells its word; a number is read back from its digits.
+  pub letter-of-code : LetterOfCode
+  pub code-of-letter : CodeOfLetter
+  pub name-of-word : NameOfWord
+  pub word-of-name : WordOfItsName
+  pub read-of-written : ReadOfWritten
+  -- R2: words packed and unpacked are the same words; accepted bytes unpacked and packed are the same bytes; both are accepted again; n words take
+  -- 15 times n halved, rounded up; and so for words of eight bytes.
+  pub unpack-packed : UnpackPacked
+  pub pack-unpacked : PackUnpacked
+  pub packed-accepted : PackedAccepted
+  pub unpacked-accepted : UnpackedAccepted
+  pub packed-length : PackedLength
+  pub unpacked-length : UnpackedLength
+  pub words-eights : WordsEights
+  pub eights-words : EightsWords
+  -- R3: the check accepts exactly the images of sound libraries, and no two sound libraries have one image; in each the yank rule has exactly one
+  -- solution.
+  pub check-exact : CheckExact
+  pub encode-once : EncodeOnce
+  pub yanked-solves : YankedSolves
+  pub yanked-unique : YankedUnique
+  -- R4: the result of an accepted run is sound, passes the check and fits the space.
+  pub run-passes : R4
+  -- R5: an accepted run keeps every card and adds those of its lines; without units it writes the image that it read.
+  pub run-keeps : R5
+  pub run-idle : RunIdle
+  -- R6: two accepted libraries that differ only in the text of inactive cards have equal compile answers.
+  pub inactive-text : R6
+  -- R7: document 01's shown cases (a) to (i), its compile example, and a dozen more.
+  pub all-hold : AllHold
+  -- DEMAND 3: what was corrected can be taken back.
+  -- B1: correction sets, then one set that only yanks each of them: the full compile answer is the one from before.
+  pub taken-back : B1
+  -- B2: that set yanked in turn: the corrected compile answer is back.
+  pub restored : B2
+  -- B3: a stream cut ahead of units and run part after part gives what the whole gives.
+  pub cut-parts : B3
+  -- B1 to B3 speak of 01's shown stream, and without any one of their hypotheses the answer can be another.
+  pub shown-back : ShownBack
+  pub none-spare : NoneSpare
+  pub shown-cut : ShownCut
+  pub none-spare-cut : NoneSpareCut
+  pub size-needed : SizeNeeded
