@@ -104,6 +104,15 @@ fn line(head: Head, bytes: &[u8]) -> Answer {
     crate::line::line(&bytes[..n])
 }
 
+fn check(head: Head, words: &[u64]) -> Answer {
+    let n = front_words(head.first / 8, words);
+    if n * 8 < head.first {
+        return Answer::Beyond;
+    }
+    let c = library::check(&words[..n]);
+    Answer::Numbers(library::checked_number(c), library::checked_place(c), 0, 0)
+}
+
 pub fn answer(
     head: Head,
     words: &[u64],
@@ -113,6 +122,7 @@ pub fn answer(
 ) -> Answer {
     let op = head.op;
     match op {
+        1 => check(head, words),
         4 => pack(head, bytes, file),
         5 => unpack(head, bytes, file),
         6 => compress(head, bytes),

@@ -8,3 +8,7 @@ pub mod Sound
 pub mod Exact
 pub mod Growth
 pub mod Alike
+pub mod Walks
+pub mod Found
+pub mod WordForm
+pub mod Rows

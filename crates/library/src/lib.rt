@@ -1,4 +1,21 @@
 // Cards and libraries: the card's form, the directory, the deck list, yanks and activity, the check of an image.
+ghost use mathlib.Core.Path.{_≡_};
+ghost use Rattle.library.specs.Check.{faultNumber, checkedNumber, checkedPlace};
+
+mod bits;
+mod cards;
+mod decks;
+mod tables;
+mod twice;
+mod whole;
+mod yanks;
+
+pub use cards::see;
+pub use decks::cards_end;
+pub use decks::deck_at;
+pub use decks::deck_line;
+pub use whole::check;
+pub use whole::yank_flags;
 
 // Why an image is no library: 01's rows 1 to 10.
 pub enum Fault {
@@ -28,4 +45,63 @@ pub enum Fault {
 pub enum Checked {
     Sound,
     Refused(Fault, usize),
+}
+
+// What is looked for in words: where it stands, or that it does not.
+pub enum Found {
+    At(usize),
+    Nothing,
+}
+
+// What is seen of a card: where its text starts and ends, its owner and number, whether its bit says active.
+pub struct Seen {
+    pub text: usize,
+    pub next: usize,
+    pub owner: u64,
+    pub seq: u64,
+    pub active: bool,
+}
+
+// A line as a deck card's: none, one of wrong form, or that of a normal or common deck of this name.
+pub enum DeckLine {
+    NotDeck,
+    BadDeck,
+    Deck(u64),
+    Common(u64),
+}
+
+// 01's number of a fault.
+pub fn fault_number(fault: Fault) -> u64
+    ensures { λ r. ⌜ r ≡ faultNumber fault ⌝ }
+{
+    match fault {
+        Fault::Size => 1,
+        Fault::Header => 2,
+        Fault::Tables => 3,
+        Fault::Name => 4,
+        Fault::Form => 5,
+        Fault::Text => 6,
+        Fault::Decks => 7,
+        Fault::Yank => 8,
+        Fault::Bit => 9,
+        Fault::Twice => 10,
+    }
+}
+
+pub fn checked_number(c: Checked) -> u64
+    ensures { λ r. ⌜ r ≡ checkedNumber c ⌝ }
+{
+    match c {
+        Checked::Sound => 0,
+        Checked::Refused(fault, _) => fault_number(fault),
+    }
+}
+
+pub fn checked_place(c: Checked) -> u64
+    ensures { λ r. ⌜ r ≡ checkedPlace c ⌝ }
+{
+    match c {
+        Checked::Sound => 0,
+        Checked::Refused(_, place) => place as u64,
+    }
 }

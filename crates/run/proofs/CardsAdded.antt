@@ -17,8 +17,9 @@ use Rattle.run.specs.Run.{steps}
 use Rattle.run.specs.Kept.{cardsOf, cardsAdded}
 use Rattle.run.specs.declared.Why.the-variants.{Known, Unknown as UnknownName, NoSet, Backwards, Barred}
 use Rattle.run.proofs.Went.{Went, Ended, refuse-went, limited-went, in-set-went, onward-ended}
+use Rattle.run.specs.Safe.{Open, Safe}
 use Rattle.run.proofs.Parts.{inserted-change, inserted-deck}
-use Rattle.run.proofs.StepSound.{Open, Safe, step-safe}
+use Rattle.run.proofs.StepSound.{step-safe}
 
 -- MARKS
 length-range : (f : Card → Card) (i j : ℕ) (cs : List Card) → length (overRange f i j cs) ≡ length cs

@@ -23,7 +23,8 @@ use Rattle.run.specs.Units.{namesOf}
 use Rattle.run.specs.Kept.{cardsAdded, UpdateKept, R4, R5, RunIdle}
 use Rattle.run.proofs.Went.{Ended, ended-is, steps-ended}
 use Rattle.run.proofs.Updates.{updated-is, no-update, EndsIn, update-ends, update-holds, update-growth, each-line}
-use Rattle.run.proofs.StepSound.{Safe, step-safe, update-sound}
+use Rattle.run.specs.Safe.{Safe}
+use Rattle.run.proofs.StepSound.{step-safe, update-sound}
 use Rattle.run.proofs.CardsAdded.{steps-cards}
 use Rattle.run.proofs.NoUnits.{steps-idle}
 use Rattle.run.proofs.RunFrom.{RanFrom, run-from, good-is}

@@ -19,18 +19,9 @@ use Rattle.library.specs.Sound.{noTwo, soundLine, isNamed, sameCard, SoundCard,
 use Rattle.library.proofs.Each.{each-map, and-parts, allOf-each}
 use Rattle.library.proofs.Appends.{each-append}
 use Rattle.library.proofs.Inserted.{Inserted, inserted-each, inserted-length, inserted-left, inserted-right, inserted-at, inserted-end, inserted-no-two}
+use Rattle.run.specs.Safe.{key, Free, Begun}
 use Rattle.run.specs.Step.{withYanks, withDecks, withCards, changeAt, putIn}
-use Rattle.run.proofs.Parts.{key, each-change, numbers-change, inserted-change}
-
--- A UNIT THAT HAS BEGUN: its number is the directory's last, and no card of it has the next number or a higher one
-abbrev pub Free : ℕ → ℕ → (ℕ × ℕ) → Type 0
-Free n next k = k .0 ≡ n → k .1 < next
-
-pub record Begun (l : Library) (next : ℕ) : Type 0 where
-  pub named : T (isNamed (l .directory) (count l))
-  pub first : 0 < next
-  pub fits : next ≤ suc (length (stream l))
-  pub free : Each (λ c. Free (count l) next (key c)) (stream l)
+use Rattle.run.proofs.Parts.{each-change, numbers-change, inserted-change}
 
 stream-short : (l : Library) → T (withinLimits l) → length (stream l) ≤ 16383
 unfolding withinLimits

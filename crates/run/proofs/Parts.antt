@@ -8,11 +8,8 @@ use Rattle.library.specs.Each.{Each}
 use Rattle.library.specs.Library.{Card, Deck, Library, deckCard, deckCards, joined, stream}
 use Rattle.library.proofs.Appends.{each-append, map-append}
 use Rattle.library.proofs.Inserted.{Inserted, put, past, inserted-left, inserted-right, inserted-at}
+use Rattle.run.specs.Safe.{key}
 use Rattle.run.specs.Step.{withCards, changeAt, putIn, overRange}
-
--- what identifies a card
-abbrev pub key : Card → ℕ × ℕ
-key c = (c .owner, c .seq)
 
 -- A RANGE OF CARDS
 pub each-range : (P : Card → Type 0) (f : Card → Card) → ((c : Card) → P c → P (f c)) → (i j : ℕ) (cs : List Card) → Each P cs → Each P (overRange f i j cs)

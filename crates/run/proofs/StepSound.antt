@@ -17,6 +17,7 @@ use Rattle.lines.specs.declared.Line.the-variants.{Text, Skipped, Deck as DeckL
 use Rattle.lines.proofs.Asked.{Says, line-says, Readable, line-readable}
 use Rattle.library.specs.Library.{Library, deckOf, deckLine}
 use Rattle.library.specs.Sound.{Sound}
+use Rattle.run.specs.Safe.{Begun, Open, Safe}
 use Rattle.run.specs.Step.{TextPlace, nowhere, inYanks, inDeck, State, start, isSet, went, limited, newCard, putIn, afterText, putText, isKnown, newDeck, afterDeck, putDeck, afterIdent, putIdent, withPlace, isUnknown, isNoSet, afterYank, putYank, Spot, isBackwards, isYankPart, isDeckSpot, isBarred, placeAfter, insertAfter, insertBefore, markIn, afterMark, markRange, find, obey, step}
 use Rattle.run.specs.Run.{steps}
 use Rattle.run.specs.RunSound.{UpdateSound}
@@ -27,20 +28,9 @@ use Rattle.run.proofs.SameDecks.{mark-decks, length-change}
 use Rattle.run.proofs.Updates.{EndsIn, update-ends, each-line}
 use Rattle.run.proofs.Spots.{PartBelow, find-below}
 use Rattle.run.proofs.MadeCards.{sound-trim, trim-no-deck, trim-deck, yank-lower}
-use Rattle.run.proofs.NewCards.{Begun, begun-more, text-inserted, text-sound, yank-inserted, yank-sound}
-use Rattle.run.proofs.Marks.{mark-sound, mark-begun}
+use Rattle.run.proofs.NewCards.{begun-more, text-inserted, text-sound, yank-inserted, yank-sound}
+use Rattle.run.proofs.MarkSound.{mark-sound, mark-begun}
 use Rattle.run.proofs.UnitSound.{ident-sound, ident-begun, deck-sound, deck-begun}
-
--- where a text line can go, there is a deck, and a unit has begun
-abbrev pub Open : Library → ℕ → TextPlace → Type 0
-Open l next nowhere = Unit {0}
-Open l next inYanks = Unit {0}
-Open l next (inDeck k i) = (k < length (l .decks)) × Begun l next
-
-pub record Safe (s : State) : Type 0 where
-  pub sound : Sound (s .lib)
-  pub place : Open (s .lib) (s .next) (s .place)
-  pub set : T (isSet (s .kind)) → Begun (s .lib) (s .next)
 
 -- what is known of a line that asks `a`
 abbrev Asks : List ℕ → Line → Type 0

@@ -23,9 +23,10 @@ use Rattle.library.proofs.Anys.{all-member}
 use Rattle.library.proofs.Inserted.{Inserted, inserted-each, inserted-length, inserted-left, inserted-end, inserted-no-two}
 use Rattle.library.proofs.Acts.{card-numbers, deck-number}
 use Rattle.library.proofs.Directories.{name-end, named-end, entry-none, names-end, entries-end, card-append, deck-append, deck-names-append, yank-append}
+use Rattle.run.specs.Safe.{key, Free, Begun}
 use Rattle.run.specs.Step.{withDecks, withEntry}
-use Rattle.run.proofs.Parts.{key, inserted-deck, each-stream}
-use Rattle.run.proofs.NewCards.{Free, Begun, same-turn}
+use Rattle.run.proofs.Parts.{inserted-deck, each-stream}
+use Rattle.run.proofs.NewCards.{same-turn}
 
 purged-no-name : T (isNameWord purged) → ⊥
 unfolding isNameWord isName nameOf

@@ -1,4 +1,17 @@
 // The correction run: units, corrections, and the stream as a whole.
+mod card;
+mod desk;
+mod fixes;
+mod gap;
+mod marks;
+mod put;
+mod seek;
+mod settle;
+mod starts;
+mod texts;
+
+ghost use mathlib.Core.Path.{_≡_};
+ghost use Rattle.run.specs.Run.{whyNumber, ranValue};
 use library::Fault;
 
 // Why a stream is refused: 01's rows 19 to 32.
@@ -38,4 +51,37 @@ pub enum Ran {
     Done(usize),
     Library(Fault, usize),
     Refused(Why, usize),
+}
+
+// The row of 01's table.
+pub fn why_number(y: Why) -> u64
+    ensures { λ r. ⌜ r ≡ whyNumber y ⌝ }
+{
+    match y {
+        Why::Stream => 19,
+        Why::Outside => 20,
+        Why::Long => 21,
+        Why::Malformed => 22,
+        Why::NotCarried => 23,
+        Why::Nowhere => 24,
+        Why::Known => 25,
+        Why::Unknown => 26,
+        Why::NoSet => 27,
+        Why::NoCard => 28,
+        Why::Backwards => 29,
+        Why::Barred => 30,
+        Why::Limit => 31,
+        Why::Space => 32,
+    }
+}
+
+// The words written, or the place.
+pub fn ran_value(r: Ran) -> u64
+    ensures { λ n. ⌜ n ≡ ranValue r ⌝ }
+{
+    match r {
+        Ran::Done(n) => n as u64,
+        Ran::Library(_, p) => p as u64,
+        Ran::Refused(_, n) => n as u64,
+    }
 }

@@ -21,9 +21,9 @@ use Rattle.library.proofs.Appends.{map-append}
 use Rattle.library.proofs.NoTwo.{no-two-map}
 use Rattle.library.proofs.Growth.{withByte}
 use Rattle.library.proofs.Acts.{card-numbers}
+use Rattle.run.specs.Safe.{key, Free, Begun}
 use Rattle.run.specs.Step.{unitNumber, withYanks, withDecks, changeAt, mark, overRange, numberAt, markIn}
-use Rattle.run.proofs.Parts.{key, each-range, keys-range, each-change, numbers-change, keys-change}
-use Rattle.run.proofs.NewCards.{Free, Begun}
+use Rattle.run.proofs.Parts.{each-range, keys-range, each-change, numbers-change, keys-change}
 
 -- ONE CARD
 module _ (yk : ℕ → Bool) (was : Bool) (n : ℕ) where

@@ -1,0 +1,110 @@
+-- The keys of the cards ahead stand in the array, so a card shares both with one of them just where its key stands there. Assumes nothing.
+use mathlib.Core.Path.{_≡_, sym, ap, _∙_}
+use Prim.Native.Nat.{ℕ, _≤_, _-_}
+use native.Mathlib.Omega.{arith}
+use mathlib.Core.List.{List, []}
+use lib.ListN.{length, length-set}
+use Rattle.library.specs.Found.{found}
+use Rattle.library.proofs.Keying.{Twice, twice-start, twice-on, twice-here, twice-full, twice-end}
+use borrow.Author.Needs.{needs}
+use Rattle.library.proofs.twice.key_twice.Statement.{statement}
+use Rattle.library.proofs.twice.key_twice.Tie as tie
+
+abbrev Inv-loop : tie.InvT-loop
+Inv-loop image from keys₀ n₀ at₀ keys n at = (n ≤ length keys) × ((length keys ≡ 16384) × ((d : List ℕ) → Twice d image from keys n at))
+
+abbrev μ-loop : tie.MeasureT-loop
+μ-loop image from keys₀ n₀ at₀ keys n at = length image - at
+
+loop-holds : tie.Need-loop-holds Inv-loop μ-loop
+loop-holds c =
+    let a = c .before .before .args in
+    (search needs, (search needs, λ d. twice-start d (a .image .now) (a .from) (a .keys .now)))
+
+same-length : tie.Need-same-length Inv-loop μ-loop
+same-length c = search needs
+
+returns : tie.Need-returns Inv-loop μ-loop
+returns c =
+    let a = c .before .before .before .before .before .args in
+    let l = c .before .before .loop in
+    λ d ss h m. absurd (twice-full d (a .image .now) (a .from) (l .keys) (l .n) (l .at) (l .inv .1 .1 d) ss h m (c .before .loop-test .taken) (omega (arith, c .if1 .taken, l .inv .1 .0)))
+
+see-requires : tie.Need-see-requires Inv-loop μ-loop
+see-requires c κs = search needs
+
+mul-key-of : tie.Need-mul-key-of Inv-loop μ-loop
+mul-key-of c = search needs
+
+shared-slice-read-key-of : tie.Need-shared-slice-read-key-of Inv-loop μ-loop
+shared-slice-read-key-of c = search needs
+
+key-of-requires : tie.Need-key-of-requires Inv-loop μ-loop
+key-of-requires c κs = search needs
+
+stands-requires : tie.Need-stands-requires Inv-loop μ-loop
+stands-requires c κs = search needs
+
+same-length-2 : tie.Need-same-length-2 Inv-loop μ-loop
+same-length-2 c = search needs
+
+returns-2 : tie.Need-returns-2 Inv-loop μ-loop
+returns-2 c =
+    let a = c .before .before .before .before .before .before .before .before .before .before .before .args in
+    let l = c .before .before .before .before .before .before .before .before .loop in
+    let r = c .before .before .before .before .before .see .result in
+    let sees = c .before .before .before .before .before .see .ensures .1 in
+    λ d ss h m. sym (ap found (twice-here d (a .image .now) (a .from) (l .keys) (l .n) (l .at) (l .inv .1 .1 d) r sees (c .before .before .before .before .before .before .before .loop-test .taken) _ (c .before .before .before .key-of .ensures) ss h (sym (c .before .stands .ensures) ∙ c .if2 .taken)))
+
+mul-keys : tie.Need-mul-keys Inv-loop μ-loop
+mul-keys c = search needs
+
+slice-write-keys : tie.Need-slice-write-keys Inv-loop μ-loop
+slice-write-keys c = search needs
+
+add-n : tie.Need-add-n Inv-loop μ-loop
+add-n c = search needs
+
+loop-less : tie.Need-loop-less Inv-loop μ-loop
+loop-less c = omega (arith, c .before .before .before .before .before .see .ensures .0 .1 .1 (c .before .before .before .before .before .before .before .loop-test .taken), c .before .before .before .before .before .see .ensures .0 .0)
+
+loop-again : tie.Need-loop-again Inv-loop μ-loop
+loop-again c =
+    let a = c .before .before .before .before .before .before .before .before .before .before .before .args in
+    let l = c .before .before .before .before .before .before .before .before .loop in
+    let r = c .before .before .before .before .before .see .result in
+    let sees = c .before .before .before .before .before .see .ensures .1 in
+    (rw length-set (omega (arith, l .inv .0, c .before .before .before .before .before .before .if1 .left)), (length-set (l .keys) (l .n) (c .before .before .before .key-of .result) ∙ l .inv .1 .0, λ d. twice-on d (a .image .now) (a .from) (l .keys) (l .n) (l .at) (l .inv .1 .1 d) r sees (c .before .before .before .before .before .before .before .loop-test .taken) _ (c .before .before .before .key-of .ensures) (omega (arith, l .inv .0, c .before .before .before .before .before .before .if1 .left)) (sym (c .before .stands .ensures) ∙ c .if2 .left)))
+
+same-length-3 : tie.Need-same-length-3 Inv-loop μ-loop
+same-length-3 c = search needs
+
+returns-3 : tie.Need-returns-3 Inv-loop μ-loop
+returns-3 c =
+    let a = c .before .before .before .before .args in
+    let l = c .before .loop in
+    λ d ss h m. sym (ap found (twice-end d (a .image .now) (a .from) (l .keys) (l .n) (l .at) (l .inv .1 .1 d) (c .loop-test .left) ss h))
+
+pub key-twice-spec : {M : Type 1} → statement M
+key-twice-spec =
+    tie.close
+    (tie.spec
+    Inv-loop
+    μ-loop
+    loop-holds
+    same-length
+    returns
+    see-requires
+    mul-key-of
+    shared-slice-read-key-of
+    key-of-requires
+    stands-requires
+    same-length-2
+    returns-2
+    mul-keys
+    slice-write-keys
+    add-n
+    loop-less
+    loop-again
+    same-length-3
+    returns-3)

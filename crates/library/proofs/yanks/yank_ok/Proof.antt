@@ -1,0 +1,36 @@
+-- The line is what the words say. Assumes nothing.
+use mathlib.Core.Path.{sym, ap, _∙_}
+use lib.Seq.{length-take-le}
+use Rattle.library.specs.Rows.{entriesOf, listOf, okYankLine}
+use borrow.Author.Needs.{needs}
+use Rattle.library.proofs.yanks.yank_ok.Statement.{statement}
+use Rattle.library.proofs.yanks.yank_ok.Tie as tie
+
+line-of-requires : tie.Need-line-of-requires
+line-of-requires c κs = search needs
+
+array-share-prefix-line : tie.Need-array-share-prefix-line
+array-share-prefix-line c = c .line-of .ensures .0
+
+slice-aggregate-yank-line-ok : tie.Need-slice-aggregate-yank-line-ok
+slice-aggregate-yank-line-ok c = sym (length-take-le (c .before .line-of .result) (c .before .line-of .last .1 .1 .1 .0) (c .before .line-of .ensures .0))
+
+yank-line-ok-requires : tie.Need-yank-line-ok-requires
+yank-line-ok-requires c κs = search needs
+
+returns : tie.Need-returns
+returns c =
+    let a = c .before .before .before .before .before .args in
+    let D = entriesOf (a .entries) (a .image .now) in
+    let L = listOf (a .entries) (a .decks) (a .image .now) in
+    λ o h t. c .yank-line-ok .ensures ∙ ap (okYankLine D L (a .c .owner)) (c .before .before .line-of .ensures .1 o h t)
+
+pub yank-ok-spec : {M : Type 1} → statement M
+yank-ok-spec =
+    tie.close
+    (tie.spec
+    line-of-requires
+    array-share-prefix-line
+    slice-aggregate-yank-line-ok
+    yank-line-ok-requires
+    returns)

@@ -1,0 +1,168 @@
+-- A unit begins: a name that is known is refused; a new one stands at the directory's end, and nothing else of the library in work changes with it.
+use Prim.Native.Nat.{ℕ, zero, suc, _+_, _-_, _≤_, _<_}
+use native.Mathlib.Omega.{arith}
+use native.Mathlib.Numerals.{add-one}
+use mathlib.Core.Path.{_≡_, refl, sym, ap, ap₂, _∙_, subst}
+use mathlib.Core.Bool.{Bool, true, false, _||_, not}
+use mathlib.Core.List.{List, [], _∷_, _++_, map}
+use lib.Dec.{T, eqb, eqb→eq}
+use lib.ListN.{length, getD, take, drop, set, length-append, length-take, length-drop, drop-of-length-le}
+use lib.Seq.{take-suc-set, drop-cons, getD-take, length-take-le}
+use Rattle.words.specs.Base.{if_then_else_, all, member}
+use Rattle.lines.specs.Directive.{directive}
+use Rattle.lines.specs.declared.Line.the-variants.{Ident}
+use Rattle.library.specs.Library.{Card, Library, stream, nameAt, deckNames, reserved, entryOf, entryFrom}
+use Rattle.library.specs.Yanks.{yanked}
+use Rattle.library.specs.Image.{cardsWords, shortHistory}
+use Rattle.library.specs.Sound.{Sound}
+use Rattle.library.proofs.Directories.{deck-names-append}
+use Rattle.run.specs.Step.{State, Step, went, refused, refuse, limited, isKnown, withDecks, withEntry, afterIdent, putIdent, obey, step}
+use Rattle.run.specs.Safe.{Safe}
+use Rattle.run.specs.Flat.{deckNumbers}
+use Rattle.run.specs.GapWords.{Ordered}
+use Rattle.run.specs.Work.{Work}
+use Rattle.run.specs.Desk.{fitted, Sane, SaneAfter, Tables, Held, Answered}
+use Rattle.run.specs.Obeyed.{StaysSane, IdentSteps}
+use Rattle.run.specs.declared.gap.Gap.{Gap}
+use Rattle.run.specs.declared.desk.Desk.{Desk}
+use Rattle.run.specs.declared.desk.TextAt.the-variants.{Nowhere as TextNowhere}
+use Rattle.run.specs.declared.desk.Stepped.{Stepped}
+use Rattle.run.specs.declared.desk.Stepped.the-variants.{Went as SteppedOn, Refused as SteppedOff}
+use Rattle.run.specs.declared.Why.the-variants.{Known}
+use Rattle.run.proofs.FlatFind.{eqb-yes, eqb-no}
+use Rattle.run.proofs.FlatStream.{entry-flat}
+use Rattle.run.proofs.FlatFlags.{flags-entry}
+use Rattle.run.proofs.FlatLimits.{words, words-under, within-small}
+use Rattle.run.proofs.Stepping.{work-words, Counted, limited-answer, fitted-sane}
+
+-- THE DIRECTORY LOOKED THROUGH, from place i on
+module _ (w : ℕ) (dir : List ℕ) (n i : ℕ) (inside : n ≤ length dir) where
+  cut : i < n → drop i (take n dir) ≡ getD dir i 0 ∷ drop (i + 1) (take n dir)
+  cut lt =
+      let m : length (take n dir) ≡ n = length-take-le n dir inside in
+      drop-cons (take n dir) i 0 (omega arith)
+      ∙ ap₂ {C = List ℕ} (λ (a : ℕ) (r : List ℕ). a ∷ r) (getD-take n dir i 0 lt) (ap (λ (k : ℕ). drop k (take n dir)) (sym (add-one i)))
+
+  pub entry-here : i < n → getD dir i 0 ≡ w → entryFrom w (i + 1) (drop i (take n dir)) ≡ i + 1
+  entry-here lt e = ap (entryFrom w (i + 1)) (cut lt) ∙ ap (λ (b : Bool). if b then (i + 1) else entryFrom w (suc (i + 1)) (drop (i + 1) (take n dir))) (eqb-yes w (getD dir i 0) (sym e))
+
+  pub entry-on : i < n → (getD dir i 0 ≡ w → ⊥) → entryFrom w (i + 1) (drop i (take n dir)) ≡ entryFrom w (i + 1 + 1) (drop (i + 1) (take n dir))
+  entry-on lt ne =
+      ap (entryFrom w (i + 1)) (cut lt)
+      ∙ ap (λ (b : Bool). if b then (i + 1) else entryFrom w (suc (i + 1)) (drop (i + 1) (take n dir))) (eqb-no w (getD dir i 0) (λ e. ne (sym e)))
+      ∙ ap (λ (k : ℕ). entryFrom w k (drop (i + 1) (take n dir))) (sym (add-one (i + 1)))
+
+  pub entry-none : n ≤ i → entryFrom w (i + 1) (drop i (take n dir)) ≡ 0
+  entry-none le =
+      let m : length (take n dir) ≡ n = length-take-le n dir inside in
+      let k : length (take n dir) ≤ i = omega arith in
+      ap (entryFrom w (i + 1)) (drop-of-length-le (take n dir) k)
+
+-- 25
+pub known-reserved : (l : Library) (w : ℕ) → w ≡ reserved → isKnown l w ≡ true
+known-reserved l w e = ap (λ (b : Bool). b || not (eqb (entryOf (l .directory) w) 0)) (eqb-yes w reserved e)
+
+pub known-entry : (l : Library) (w : ℕ) → 0 < entryOf (l .directory) w → isKnown l w ≡ true
+known-entry l w pos = go (eqb w reserved) (ap not (eqb-no (entryOf (l .directory) w) 0 (λ e. omega (arith, e))))
+  where
+    go : (a : Bool) {b : Bool} → b ≡ true → (a || b) ≡ true
+    go true e = refl
+    go false e = e
+
+pub known-not : (l : Library) (w : ℕ) → (w ≡ reserved → ⊥) → entryOf (l .directory) w ≡ 0 → isKnown l w ≡ false
+known-not l w ne e = ap₂ (λ (a b : Bool). a || not b) (eqb-no w reserved ne) (eqb-yes (entryOf (l .directory) w) 0 e)
+
+ident-obeyed : (s : State) (line : List ℕ) (word : ℕ) (b : Bool) → directive line ≡ Ident word → isKnown (s .lib) word ≡ b → step s line ≡ refuse b Known (limited (afterIdent s word))
+unfolding step
+ident-obeyed s line word b asks e = ap (obey s line) asks ∙ ap (λ (x : Bool). refuse x Known (limited (afterIdent s word))) e
+
+ident-refused : (dir : List ℕ) (d : Desk) (word : ℕ) (new : List ℕ)
+    → ((w names decks flags : List ℕ) (s : State) → Held w dir names decks flags d s → isKnown (s .lib) word ≡ true) → IdentSteps dir d word new (SteppedOff Known)
+ident-refused dir d word new k w names decks flags line s sane asks held =
+    subst (λ (x : Step). Answered w new names decks flags (SteppedOff Known) x) (sym (ident-obeyed s line word true asks (k w names decks flags s held))) refl
+
+pub ident-reserved : (dir : List ℕ) (d : Desk) (word : ℕ) (new : List ℕ) → word ≡ reserved → IdentSteps dir d word new (SteppedOff Known)
+ident-reserved dir d word new e = ident-refused dir d word new (λ w names decks flags s held. known-reserved (s .lib) word e)
+
+pub ident-twice : (dir : List ℕ) (d : Desk) (word : ℕ) (new : List ℕ) → 0 < entryOf (take (d .entries) dir) word → IdentSteps dir d word new (SteppedOff Known)
+ident-twice dir d word new pos =
+    ident-refused dir d word new (λ w names decks flags s held. known-entry (s .lib) word (subst (λ (ds : List ℕ). 0 < entryOf ds word) (held .tables .directory) pos))
+
+-- IDENT
+ident-names : (l : Library) (w : ℕ) → Sound l → deckNames (withEntry l w) ≡ deckNames l
+unfolding deckNames
+ident-names l w s = ap {B = List ℕ} (λ x. reserved ∷ x) (deck-names-append (l .directory) (w ∷ []) (l .decks) (s .decks))
+
+abbrev pub identDesk : Desk → Desk
+identDesk d =
+    record { gap = d .gap; entries = d .entries + 1; decks = d .decks; cards = d .cards; yanks = d .yanks; lead = d .lead; set = true; next = 1; place = TextNowhere }
+
+module _ (dir : List ℕ) (d : Desk) (word : ℕ) (long : length dir ≡ 1024) (few : d .entries ≤ 1023) (other : word ≡ reserved → ⊥) (unknown : entryOf (take (d .entries) dir) word ≡ 0)
+    (w names decks flags line : List ℕ) (s : State) (sane : Sane w d) (asks : directive line ≡ Ident word) (held : Held w dir names decks flags d s) where
+  abbrev l : Library
+  l = s .lib
+
+  abbrev t : State
+  t = afterIdent s word
+
+  abbrev yk : ℕ → Bool
+  yk = yanked l 0
+
+  stepped : step s line ≡ limited t
+  stepped = ident-obeyed s line word false asks (known-not l word other (subst (λ (ds : List ℕ). entryOf ds word ≡ 0) (held .tables .directory) unknown))
+
+  total : words (t .lib) ≡ d .gap .lo + (65536 - d .gap .hi)
+  total =
+      sym (words-under yk (t .lib)) ∙ ap (λ (cs : List Card). length (cardsWords yk cs)) (entry-flat l word ∙ sym (held .whole))
+      ∙ work-words w (d .gap) yk (held .below) (held .above) (held .work) (sane .ordered) ∙ ap (λ (n : ℕ). d .gap .lo + (n - d .gap .hi)) (sane .room)
+
+  longer : d .entries + 1 ≡ length (l .directory ++ (word ∷ []))
+  longer = let e : d .entries ≡ length (l .directory) = held .tables .entries in omega (arith, length-append (l .directory) (word ∷ []))
+
+  counted : Counted w (identDesk d) (t .lib)
+  counted = record {
+    entries = longer;
+    decks = held .tables .count;
+    cards = held .cards ∙ sym (ap length (entry-flat l word));
+    short = subst (λ (cs : List Card). T (all shortHistory cs)) (sym (entry-flat l word)) (within-small l (held .safe .sound .limits) .short);
+    room = sane .room;
+    fits = λ le. total;
+    crowded = λ lt. absurd (omega (arith, lt, sane .ordered .0));
+  }
+
+  after : Safe t → Held w (set dir (d .entries) word) names decks flags (identDesk d) t
+  after safe =
+      let f : yanked (t .lib) 0 ≡ yk = flags-entry l (l .decks) word (held .safe .sound) (safe .sound) in record {
+        below = held .below;
+        above = held .above;
+        work = subst (λ (g : ℕ → Bool). Work w (d .gap) g (held .below) (held .above)) (sym f) (held .work);
+        whole = held .whole ∙ sym (entry-flat l word);
+        cards = counted .cards;
+        tables = record {
+          directory = ap (λ (n : ℕ). take n (set dir (d .entries) word)) (add-one (d .entries)) ∙ take-suc-set dir (d .entries) word (omega arith) ∙ ap (λ (ds : List ℕ). ds ++ (word ∷ [])) (held .tables .directory);
+          entries = longer;
+          listed = held .tables .listed ∙ sym listing;
+          count = held .tables .count;
+          marked = held .tables .marked;
+        };
+        yanks = held .yanks;
+        leads = held .leads ∙ ap (λ (g : ℕ → Bool). length (cardsWords g (l .yanks))) (sym f);
+        settled = λ n. held .settled n ∙ ap (λ (g : ℕ → Bool). g n) (sym f);
+        set = refl;
+        next = refl;
+        place = tt;
+        safe = safe;
+      }
+    where
+      listing : deckNames (withEntry l word) ≡ deckNames l
+      listing = ident-names l word (held .safe .sound)
+
+  ident-answer : Answered w (set dir (d .entries) word) names decks flags (fitted (identDesk d)) (step s line)
+  ident-answer = limited-answer w (set dir (d .entries) word) names decks flags (identDesk d) t counted s line stepped (held .safe) (λ le safe. after safe)
+
+pub ident-on : (dir : List ℕ) (d : Desk) (word : ℕ) → length dir ≡ 1024 → d .entries ≤ 1023 → (word ≡ reserved → ⊥) → entryOf (take (d .entries) dir) word ≡ 0
+    → IdentSteps dir d word (set dir (d .entries) word) (fitted (identDesk d))
+ident-on dir d word long few other unknown w names decks flags line s sane asks held = ident-answer dir d word long few other unknown w names decks flags line s sane asks held
+
+pub ident-sane : (d : Desk) → StaysSane d (fitted (identDesk d))
+ident-sane d w sane = fitted-sane w (identDesk d) (sane .ordered .1) (sane .room) (omega arith)

@@ -1,0 +1,101 @@
+-- Outside a set 24, no card 28, in YANK$$$ or at a deck card 30; else the gap is opened directly ahead of the card.
+use Prim.Native.Nat.{ℕ, _+_, _≤_, _<_}
+use native.Mathlib.Omega.{arith}
+use mathlib.Core.Path.{_≡_, refl, sym, _∙_, subst}
+use mathlib.Core.Bool.{true, false}
+use lib.ListN.{length, take}
+use borrow.Author.Needs.{needs}
+use Rattle.run.proofs.Correcting.{before-off, before-missing, before-yanks, before-deck, before-on, movedDesk, moved-sane, not-taken, not-left}
+use Rattle.run.proofs.fixes.before_step.Statement.{statement}
+use Rattle.run.proofs.fixes.before_step.Tie as tie
+use Rattle.run.proofs.fixes.before_step.Reads as reads
+use Rattle.run.proofs.fixes.before_step.Lts as lts
+use Rattle.run.proofs.fixes.is_title.Reads as is-title-reads
+use Rattle.run.proofs.fixes.seek_card.Reads as seek-card-reads
+use Rattle.run.proofs.gap.open_ahead.Reads as open-ahead-reads
+
+-- src/fixes.rt:100:9
+returns : tie.Need-returns
+returns c = let a = c .before .before .before .before .before .args in (tt, before-off (a .w .now) (a .dir .now) (a .decks .now) (a .d) (a .r) _ (not-taken (a .d .set) (c .if1 .taken)))
+
+-- src/fixes.rt:102:9
+seek-card-requires : tie.Need-seek-card-requires
+seek-card-requires c κs = search needs
+
+-- src/fixes.rt:104:9
+same-length : tie.Need-same-length
+same-length c = search needs
+
+-- src/fixes.rt:104:9
+returns-2 : tie.Need-returns-2
+returns-2 c =
+    let a = c .before .before .before .before .before .before .before .before .before .before .args in
+    let f = c .before .before .before .seek-card in
+    (tt, before-missing (a .w .now) (a .dir .now) (a .decks .now) (a .d) (a .r) _ (not-left (a .d .set) (c .before .before .before .before .before .if1 .left)) (f .result) (f .ensures .1) (c .if2 .taken))
+
+-- src/fixes.rt:107:9
+same-length-2 : tie.Need-same-length-2
+same-length-2 c = search needs
+
+-- src/fixes.rt:107:9
+returns-3 : tie.Need-returns-3
+returns-3 c =
+    let a = c .before .before .before .before .before .before .before .before .before .before .before .before .before .args in
+    let f = c .before .before .before .before .before .before .seek-card in
+    (tt, before-yanks (a .w .now) (a .dir .now) (a .decks .now) (a .d) (a .r) _ (not-left (a .d .set) (c .before .before .before .before .before .before .before .before .if1 .left)) (f .result) (f .ensures .1) (c .before .before .before .if2 .left) (c .if3 .taken))
+
+-- src/fixes.rt:109:8
+is-title-requires : tie.Need-is-title-requires
+is-title-requires c κs = search needs
+
+-- src/fixes.rt:110:9
+same-length-3 : tie.Need-same-length-3
+same-length-3 c = search needs
+
+-- src/fixes.rt:110:9
+returns-4 : tie.Need-returns-4
+returns-4 c =
+    let a = c .before .before .before .before .before .before .before .before .before .before .before .before .before .before .before .args in
+    let f = c .before .before .before .before .before .before .before .before .seek-card in
+    (tt, before-deck (a .w .now) (a .dir .now) (a .decks .now) (a .d) (a .r) _ (not-left (a .d .set) (c .before .before .before .before .before .before .before .before .before .before .if1 .left)) (f .result) (f .ensures .1) (c .before .before .before .before .before .if2 .left) (sym (c .before .is-title .ensures) ∙ c .if4 .taken))
+
+-- src/fixes.rt:113:9
+open-ahead-requires : tie.Need-open-ahead-requires
+open-ahead-requires c κs =
+    let a = c .before .before .before .before .before .before .before .before .before .before .before .before .before .before .before .before .before .args in
+    let pre = c .before .before .before .before .before .before .before .before .before .before .before .before .before .before .before .before .before .pre .0 in
+    let f = c .before .before .before .before .before .before .before .before .before .before .seek-card .ensures .0 in
+    search needs
+
+-- src/fixes.rt:94:1
+same-length-4 : tie.Need-same-length-4
+same-length-4 c = search needs
+
+-- src/fixes.rt:94:1
+returns-5 : tie.Need-returns-5
+returns-5 c =
+    let a = c .before .before .before .before .before .before .before .before .before .before .before .before .before .before .before .before .before .before .before .before .args in
+    let pre = c .before .before .before .before .before .before .before .before .before .before .before .before .before .before .before .before .before .before .before .before .pre in
+    let f = c .before .before .before .before .before .before .before .before .before .before .before .before .before .seek-card in
+    let o = c .before .before .open-ahead in
+    let same : length (o .last .0) ≡ length (a .w .now) = search needs in (
+      moved-sane (a .w .now) (o .last .0) (a .d) (o .result) (pre .0) same (o .ensures .0),
+      before-on (a .w .now) (a .dir .now) (a .decks .now) (a .d) (a .r) (o .last .0) (not-left (a .d .set) (c .before .before .before .before .before .before .before .before .before .before .before .before .before .before .before .if1 .left)) (f .result) (f .ensures .1) (c .before .before .before .before .before .before .before .before .before .before .if2 .left) (c .before .before .before .before .before .before .before .if3 .left) (sym (c .before .before .before .before .before .before .is-title .ensures) ∙ c .before .before .before .before .before .if4 .left) (o .result) (o .ensures .1),
+    )
+
+pub before-step-spec : {M : Type 1} → statement M
+before-step-spec =
+    tie.close
+    (tie.spec
+    returns
+    seek-card-requires
+    same-length
+    returns-2
+    same-length-2
+    returns-3
+    is-title-requires
+    same-length-3
+    returns-4
+    open-ahead-requires
+    same-length-4
+    returns-5)

@@ -1,0 +1,108 @@
+-- The head has one activating byte of a set that is not yanked, so the card is active; the text follows it.
+use mathlib.Core.Path.{_∙_}
+use native.Mathlib.Omega.{arith}
+use lib.ListN.{length-set}
+use Rattle.run.proofs.Putting.{newHead, put-none, put-done, work-put}
+use borrow.Author.Needs.{needs}
+use Rattle.run.proofs.put.put_card.Statement.{statement}
+use Rattle.run.proofs.put.put_card.Tie as tie
+
+add-if1 : tie.Need-add-if1
+add-if1 c = search needs
+
+add-if1-2 : tie.Need-add-if1-2
+add-if1-2 c = search needs
+
+add-t12 : tie.Need-add-t12
+add-t12 c = search needs
+
+add-t13 : tie.Need-add-t13
+add-t13 c = search needs
+
+returns : tie.Need-returns
+returns c =
+    let a = c .before .before .before .args in
+    let p = c .before .before .before .pre in (
+      search needs,
+      work-put (a .w .now) (a .g) (a .text .now) (a .k) (a .seq) (a .n) (p .0) (p .1 .1 .0) (p .1 .1 .1 .0) (p .1 .1 .1 .1 .0)
+          (p .1 .1 .1 .1 .1) _ _ (put-none (a .w .now) (a .g) (a .text .now) (a .k) (a .seq) (a .n) (p .0) (p .1 .1 .0) (c .if1 .taken)),
+    )
+
+add-w : tie.Need-add-w
+add-w c = search needs
+
+mul-w : tie.Need-mul-w
+mul-w c = search needs
+
+add-w-2 : tie.Need-add-w-2
+add-w-2 c = search needs
+
+mul-w-2 : tie.Need-mul-w-2
+mul-w-2 c = search needs
+
+add-w-3 : tie.Need-add-w-3
+add-w-3 c = search needs
+
+add-w-4 : tie.Need-add-w-4
+add-w-4 c = search needs
+
+add-w-5 : tie.Need-add-w-5
+add-w-5 c = search needs
+
+mul-w-3 : tie.Need-mul-w-3
+mul-w-3 c = search needs
+
+slice-write-w : tie.Need-slice-write-w
+slice-write-w c = search needs
+
+add-write-text : tie.Need-add-write-text
+add-write-text c = search needs
+
+write-text-requires : tie.Need-write-text-requires
+write-text-requires c κs = (omega arith, rw length-set (omega arith))
+
+add-t9 : tie.Need-add-t9
+add-t9 c = search needs
+
+add-t10 : tie.Need-add-t10
+add-t10 c = search needs
+
+same-length : tie.Need-same-length
+same-length c =
+    let a = c .before .before .before .before .before .before .before .args in
+    c .before .before .write-text .kept .0 ∙ length-set (a .w .now) (a .g .lo) (newHead (a .k) (a .seq) (a .n))
+
+returns-2 : tie.Need-returns-2
+returns-2 c =
+    let a = c .before .before .before .before .before .before .before .args in
+    let p = c .before .before .before .before .before .before .before .pre in (
+      omega arith,
+      work-put (a .w .now) (a .g) (a .text .now) (a .k) (a .seq) (a .n) (p .0) (p .1 .1 .0) (p .1 .1 .1 .0) (p .1 .1 .1 .1 .0)
+          (p .1 .1 .1 .1 .1) _ _ (rw (c .before .before .write-text .ensures)
+          (put-done (a .w .now) (a .g) (a .text .now) (a .k) (a .seq) (a .n) (p .0) (p .1 .1 .0) (c .before .before .before .before .if1 .left))),
+    )
+
+pub put-card-spec : {M : Type 1} → statement M
+put-card-spec =
+    tie.close
+    (tie.spec
+    add-if1
+    add-if1-2
+    add-t12
+    add-t13
+    returns
+    add-w
+    mul-w
+    add-w-2
+    mul-w-2
+    add-w-3
+    add-w-4
+    add-w-5
+    mul-w-3
+    slice-write-w
+    add-write-text
+    write-text-requires
+    add-t9
+    add-t10
+    same-length
+    returns-2)

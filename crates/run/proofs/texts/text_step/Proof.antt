@@ -1,0 +1,87 @@
+-- Where text goes nowhere or into YANK$$$ it is refused; else the card at the gap is the new card, and the limits are tested by counts.
+use Prim.Native.Nat.{ℕ, _+_, _≤_}
+use native.Mathlib.Omega.{arith}
+use mathlib.Core.Path.{_≡_, refl, sym, _∙_, subst}
+use lib.ListN.{length}
+use borrow.Author.Needs.{needs}
+use Rattle.run.specs.Desk.{SaneAfter}
+use Rattle.run.specs.Obeyed.{TextSteps}
+use Rattle.run.proofs.Stepping.{fitted-sane}
+use Rattle.run.proofs.Texting.{text-off, text-barred, text-on, textDesk}
+use Rattle.run.proofs.texts.text_step.Statement.{statement}
+use Rattle.run.proofs.texts.text_step.Tie as tie
+use Rattle.run.proofs.texts.text_step.Reads as reads
+use Rattle.run.proofs.texts.text_step.Lts as lts
+use Rattle.run.proofs.desk.limited.Reads as limited-reads
+use Rattle.run.proofs.texts.put_line.Reads as put-line-reads
+
+-- src/texts.rt:40:45
+enum-told : tie.Need-enum-told
+enum-told c = search needs
+
+-- src/texts.rt:41:43
+enum-told-2 : tie.Need-enum-told-2
+enum-told-2 c = search needs
+
+-- src/texts.rt:43:30
+enum-told-3 : tie.Need-enum-told-3
+enum-told-3 c = search needs
+
+-- src/texts.rt:43:17
+put-line-requires : tie.Need-put-line-requires
+put-line-requires c κs = search needs
+
+-- src/texts.rt:48:24
+add-t13 : tie.Need-add-t13
+add-t13 c = search needs
+
+-- src/texts.rt:52:23
+add-t12 : tie.Need-add-t12
+add-t12 c = search needs
+
+-- src/texts.rt:44:13
+limited-requires : tie.Need-limited-requires
+limited-requires c κs = search needs
+
+-- src/texts.rt:32:1
+returns : tie.Need-returns
+returns c = let a = c .before .before .before .before .before .args in (tt, text-off (a .w .now) (a .d) (a .line .now) _ (c .enum-told .given .1))
+
+-- src/texts.rt:32:1
+returns-2 : tie.Need-returns-2
+returns-2 c = let a = c .before .before .before .before .before .args in (tt, text-barred (a .w .now) (a .d) (a .line .now) _ (c .enum-told2 .given .1))
+
+-- src/texts.rt:32:1
+same-length : tie.Need-same-length
+same-length c = search needs
+
+-- src/texts.rt:32:1
+returns-3 : tie.Need-returns-3
+returns-3 c =
+    let a = c .before .before .before .before .before .before .before .before .before .before .before .before .args in
+    let p = c .before .before .before .before .before .put-line in
+    let pre = c .before .before .before .before .before .before .before .before .before .before .before .before .pre in
+    let d = textDesk (a .d) (p .result) in
+    let same : length (p .last .0) ≡ length (a .w .now) = search needs in
+    let high : p .result .hi ≤ length (a .w .now) = p .ensures .0 .0 in
+    let e = c .limited .ensures in (
+      subst (SaneAfter (p .last .0)) (sym e) (fitted-sane (p .last .0) d (omega arith) (same ∙ pre .room) (omega (arith, pre .next))),
+      subst (TextSteps (a .w .now) (a .d) (a .line .now) (p .last .0)) (sym e)
+          (text-on (a .w .now) (a .d) (a .line .now) (p .last .0) (p .result) (pre .room) (same ∙ pre .room) high (p .ensures .1) (c .before .before .before .before .before .before .before .enum-told3 .given .1)),
+    )
+
+pub text-step-spec : {M : Type 1} → statement M
+text-step-spec =
+    tie.close
+    (tie.spec
+    enum-told
+    enum-told-2
+    enum-told-3
+    put-line-requires
+    add-t13
+    add-t12
+    limited-requires
+    returns
+    returns-2
+    same-length
+    returns-3)

@@ -1,0 +1,34 @@
+-- Where a card stands among cards, and in their words (01, "Owner and sequence number identify a card").
+--   among cards   indexOf
+--   in words      CardRun, Found, Finds
+use Prim.Native.Nat.{ℕ, suc, _+_}
+use mathlib.Core.Path.{_≡_}
+use mathlib.Core.Bool.{Bool}
+use mathlib.Core.List.{List, [], _∷_, _++_}
+use lib.ListN.{length, take, drop}
+use Rattle.words.specs.Base.{if_then_else_}
+use Rattle.library.specs.Each.{Each}
+use Rattle.library.specs.Library.{Card}
+use Rattle.library.specs.Image.{cardsWords}
+use Rattle.run.specs.Step.{isNamed}
+use Rattle.run.specs.CardHeads.{Fits}
+use Rattle.run.specs.declared.seek.Place.{Place}
+
+-- how many cards stand ahead of the first with this owner and number: all of them where there is none
+unfoldable pub indexOf : ℕ → ℕ → List Card → ℕ
+indexOf o s [] = 0
+indexOf o s (c ∷ cs) = if isNamed o s c then 0 else suc (indexOf o s cs)
+
+-- the words from `from` up to `to` are those of the cards
+pub record CardRun (w : List ℕ) (from to : ℕ) (yk : ℕ → Bool) (cs : List Card) (rest : List ℕ) : Type 0 where
+  pub words : drop from w ≡ cardsWords yk cs ++ rest
+  pub end : from + length (cardsWords yk cs) ≡ to
+  pub fit : Each Fits cs
+
+-- the card's index, and the word it begins at; the end where there is none
+pub record Found (from : ℕ) (yk : ℕ → Bool) (cs : List Card) (o s : ℕ) (r : Place) : Type 0 where
+  pub index : r .index ≡ indexOf o s cs
+  pub at : r .at ≡ from + length (cardsWords yk (take (indexOf o s cs) cs))
+
+abbrev pub Finds : List ℕ → ℕ → ℕ → ℕ → ℕ → Place → Type 0
+Finds w from to o s r = (yk : ℕ → Bool) (cs : List Card) (rest : List ℕ) → CardRun w from to yk cs rest → Found from yk cs o s r

@@ -1,0 +1,84 @@
+// A card's heads, the words of its history, as they stand in an array (01, "Cards").
+ghost use mathlib.Core.Path.{_≡_};
+ghost use mathlib.Core.Bool.{Bool, true, false};
+ghost use Prim.Native.Nat.{ℕ, _+_, _-_, _*_, _/_, _%_, _^_, _≤_, _<_};
+ghost use lib.ListN.{length, drop};
+ghost use Rattle.run.specs.CardHeads.{headLen, SeesAny, FullAny};
+
+// A field of 18 bits: a history byte, the sequence number, the words of text.
+pub(crate) const FIELD: u64 = 262144;
+// What one more is worth in bits 53-36: the words of text, or the first of three bytes.
+pub(crate) const UPPER: u64 = 68719476736;
+// Bit 58, activity.
+pub(crate) const ACTIVE: u64 = 288230376151711744;
+// Bit 59, set when no more history words follow.
+pub(crate) const LAST: u64 = 576460752303423488;
+// Directory numbers, bits 15-00 of a byte, end below this, which is its bit 16, activating.
+pub(crate) const ACTIVATING: u64 = 65536;
+// Bit 17 of a byte, yanked.
+pub(crate) const YANKED: u64 = 131072;
+// The heads of a history of 64 bytes: the first word has one, the others three.
+const MOST_HEADS: usize = 22;
+
+// What is seen of a card: its owner and number, its activity bit, how many words of history it has, and of text.
+pub(crate) struct Seen {
+    pub(crate) owner: u64,
+    pub(crate) seq: u64,
+    pub(crate) active: u64,
+    pub(crate) heads: usize,
+    pub(crate) count: usize,
+}
+
+// How many words of history stand from `at` on.
+fn head_len(w: &[u64], at: usize) -> usize
+    requires { ⌜ at ≤ length (now w) ⌝ }
+    ensures { λ r. ⌜ (r ≡ headLen (drop at (now (w .entry)))) × ((at + r ≤ length (now (w .entry))) × (at < length (now (w .entry)) → 0 < r)) ⌝ }
+{
+    let mut i = at;
+    while i < w.len() {
+        if LAST <= w[i] {
+            return i + 1 - at;
+        }
+        i += 1;
+    }
+    i - at
+}
+
+pub(crate) fn see(w: &[u64], at: usize) -> Seen
+    requires { ⌜ at < length (now w) ⌝ }
+    ensures { λ r. ⌜ (at + r .heads ≤ length (now (w .entry))) × ((0 < r .heads) × (r .count < 262144)) ⌝ }
+    ensures { λ r. ⌜ SeesAny (now (w .entry)) at r ⌝ }
+{
+    let x = w[at];
+    let n = head_len(w, at);
+    Seen {
+        owner: x % ACTIVATING,
+        seq: x / FIELD % FIELD,
+        active: x / ACTIVE % 2,
+        heads: n,
+        count: (x / UPPER % FIELD) as usize,
+    }
+}
+
+// Whether the history at `at` has 64 bytes, so that one more would pass the limit of row 5.
+pub(crate) fn is_full(w: &[u64], at: usize, heads: usize) -> bool
+    requires { ⌜ (0 < heads) × (at + heads ≤ length (now w)) ⌝ }
+    ensures { λ r. ⌜ FullAny (now (w .entry)) at heads r ⌝ }
+{
+    if heads < MOST_HEADS {
+        return false;
+    }
+    let last = w[at + heads - 1];
+    if last % FIELD == 0 {
+        return false;
+    }
+    true
+}
+
+// A first word with its activity bit set anew.
+pub(crate) fn with_active(h: u64, on: u64) -> u64
+    requires { ⌜ on < 2 ⌝ }
+    ensures { λ r. ⌜ r ≡ h - h / 2 ^ 58 % 2 * 2 ^ 58 + on * 2 ^ 58 ⌝ }
+{
+    h - h / ACTIVE % 2 * ACTIVE + on * ACTIVE
+}

@@ -1,0 +1,71 @@
+// The state of a run, by value beside the lent arrays, and what a line's step answers.
+ghost use mathlib.Core.Path.{_≡_};
+ghost use Prim.Native.Nat.{_≤_};
+ghost use Rattle.run.specs.Desk.{fitted};
+use crate::Why;
+use crate::gap::Gap;
+
+// Where a text line goes.
+pub(crate) enum TextAt {
+    Nowhere,
+    // in YANK$$$, where no text may go
+    Yanks,
+    // to the gap
+    Gap,
+}
+
+pub(crate) struct Desk {
+    pub(crate) gap: Gap,
+    // the entries of the directory, the decks without YANK$$$, all cards
+    pub(crate) entries: usize,
+    pub(crate) decks: usize,
+    pub(crate) cards: usize,
+    // the cards of YANK$$$, and their words
+    pub(crate) yanks: usize,
+    pub(crate) lead: usize,
+    // whether the unit is a set, and the number of its next card
+    pub(crate) set: bool,
+    pub(crate) next: u64,
+    pub(crate) place: TextAt,
+}
+
+pub(crate) enum Stepped {
+    Went(Desk),
+    Refused(Why),
+}
+
+// The words of the array that cards stand in, and of the tables' header with YANK$$$ in the deck list.
+const ROOM: usize = 65536;
+
+const HEADER: usize = 3;
+
+// the limits of rows 3 and 5
+const ENTRIES: usize = 1023;
+
+const DECKS: usize = 254;
+
+const CARDS: usize = 16383;
+
+// 31: a limit of rows 1, 3 or 5 would be passed.
+pub(crate) fn limited(d: Desk) -> Stepped
+    requires { ⌜ (d .gap .hi ≤ 65536) × ((d .gap .lo ≤ 131072) × ((d .entries ≤ 2000) × (d .decks ≤ 2000))) ⌝ }
+    ensures { λ r. ⌜ r ≡ fitted d ⌝ }
+{
+    let g = d.gap;
+    if g.hi < g.lo {
+        return Stepped::Refused(Why::Limit);
+    }
+    if ENTRIES < d.entries {
+        return Stepped::Refused(Why::Limit);
+    }
+    if DECKS < d.decks {
+        return Stepped::Refused(Why::Limit);
+    }
+    if CARDS < d.cards {
+        return Stepped::Refused(Why::Limit);
+    }
+    if ROOM < HEADER + d.entries + d.decks + g.lo + (ROOM - g.hi) {
+        return Stepped::Refused(Why::Limit);
+    }
+    Stepped::Went(d)
+}
