@@ -21,7 +21,7 @@ uint64_t galdwist_pack(const uint8_t *words, size_t n, uint8_t *out, size_t room
 uint64_t galdwist_unpack(const uint8_t *bytes, size_t n, uint8_t *out, size_t room, uint64_t *written);
 
 /* The library check of an image, one 60-bit word to an element. Answers the row of the first fault, 1 to 10, or 0; `place`: the word at
- * fault, or 0. It needs about 300 KiB of stack. library/Check.antt: check, checkedNumber, checkedPlace. */
+ * fault, or 0. library/Check.antt: check, checkedNumber, checkedPlace. */
 uint64_t galdwist_check(const uint64_t *image, size_t n, uint64_t *place);
 
 #endif
