@@ -1,7 +1,0 @@
-pub mod View
-pub mod Walk
-pub mod Compile
-pub mod Lines
-pub mod Places
-pub mod Steps
-pub mod Answer
