@@ -1,2 +1,12 @@
 pub mod ViewBack
 pub mod AlikeView
+pub mod Standing
+pub mod Printing
+pub mod Rows
+pub mod Finding
+pub mod Writing
+pub mod Putting
+pub mod Stepping
+pub mod Following
+pub mod Decking
+pub mod Encoded

@@ -1,3 +1,7 @@
 pub mod View
 pub mod Walk
 pub mod Compile
+pub mod Lines
+pub mod Places
+pub mod Steps
+pub mod Answer

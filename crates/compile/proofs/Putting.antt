@@ -1,0 +1,28 @@
+-- A line in the space, or no more room. Assumes nothing.
+use Prim.Native.Nat.{ℕ, _+_, _-_, _*_, _/_, _≤_, _<_}
+use native.Mathlib.Omega.{arith}
+use mathlib.Core.Path.{_≡_}
+use mathlib.Core.Bool.{Bool, true, false}
+use mathlib.Core.List.{List}
+use borrow.Author.Tests.{lt-ltb, le-ltb}
+use borrow.Rule.Slice.PartMut.{putMid, post-is}
+use lib.ListN.{length}
+use Rattle.compile.specs.View.{Shown}
+use Rattle.compile.specs.Lines.{lineOf}
+use Rattle.compile.specs.declared.Stop.the-variants.{Space}
+use Rattle.compile.specs.declared.walk.Walked.the-variants.{On}
+use Rattle.compile.specs.Steps.{state, haltedAt, putOf}
+
+module _ (w : Bool) (c : Shown) (l n : ℕ) (o : List ℕ) where
+  pub put-full : length o / 91 ≤ l → haltedAt Space c o ≡ putOf w c l n o
+  unfolding putOf
+  put-full h = rw (le-ltb l (length o / 91) h)
+
+  pub put-counted : l < length o / 91 → w ≡ false → state (On (l + 1) n) o ≡ putOf w c l n o
+  unfolding putOf
+  put-counted h e = rw (lt-ltb l (length o / 91) h, e)
+
+  pub put-written : (p : List ℕ) → l < length o / 91 → w ≡ true → p ≡ lineOf (c .line) (c .name) (c .seq)
+      → state (On (l + 1) n) (putMid (l * 91) (l * 91 + 91 - l * 91) o p) ≡ putOf w c l n o
+  unfolding putOf
+  put-written p h e q = rw (lt-ltb l (length o / 91) h, e, q, post-is (l * 91) (l * 91 + 91) o (omega arith))

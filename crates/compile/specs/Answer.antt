@@ -1,0 +1,31 @@
+-- What the parts of `compile` answer, each of whatever stands behind it.
+--   of a view                  Named, Plain, Compiles
+--   of an image that is sound  CompilesImage
+use Prim.Native.Nat.{ℕ, _<_}
+use mathlib.Core.Path.{_≡_}
+use mathlib.Core.Bool.{true}
+use mathlib.Core.List.{List}
+use lib.ListN.{length}
+use Rattle.words.specs.Names.{isNameWord}
+use Rattle.library.specs.Library.{Library}
+use Rattle.library.specs.Each.{Each}
+use Rattle.library.specs.Check.{good, check}
+use Rattle.compile.specs.View.{Shown, DeckView, view}
+use Rattle.compile.specs.Compile.{Compiling, ofWalk, compileView, compiled, compileInto}
+use Rattle.compile.specs.declared.Compiled.{Compiled}
+
+-- every card shown has an owner with a name, and a number of 18 bits
+abbrev pub Named : Shown → Type 0
+Named c = (isNameWord (c .name) ≡ true) × (c .seq < 262144)
+
+abbrev pub Plain : List DeckView → Type 0
+Plain ds = Each (λ d. Each Named (d .lines)) ds
+
+abbrev pub Answers : Compiling → Compiled → List ℕ → List ℕ → Type 0
+Answers c r before after = (r ≡ compiled c) × (after ≡ compileInto c before)
+
+abbrev pub Compiles : List DeckView → Compiled → List ℕ → List ℕ → Type 0
+Compiles ds r before after = Plain ds → Answers (ofWalk (compileView (length before) ds)) r before after
+
+abbrev pub CompilesImage : List ℕ → Compiled → List ℕ → List ℕ → Type 0
+CompilesImage ws r before after = (l : Library) → check ws ≡ good l → Answers (ofWalk (compileView (length before) (view l))) r before after
