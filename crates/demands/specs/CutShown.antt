@@ -11,7 +11,7 @@ use Rattle.library.specs.Library.{fresh}
 use Rattle.library.specs.Image.{encode}
 use Rattle.library.specs.Check.{faultNumber}
 use Rattle.run.specs.Run.{Running, newLibrary, badLibrary, badStream, running, whyNumber}
-use Rattle.demands.specs.Shown.{streamOf, three, lineA3, lineB, compiledTo, refusedWith}
+use Rattle.demands.specs.Shown.{streamOf, three, lineA3, lineB, compileOf, wrote, refusedWith}
 use Rattle.demands.specs.Cut.{whole, isCut, runParts}
 
 -- 01'S STREAM IN PARTS, one for each of its units, the last without its byte 10; and one of which the last unit is refused
@@ -33,7 +33,7 @@ pub record ShownCut : Type 0 where
   pub cut : T (isCut shownParts)
   pub stream : T (same (whole shownParts ++ (10 ∷ [])) (streamOf three))
   pub size : length (whole shownParts) ≤ 262144
-  pub compiled : T (compiledTo (runParts (encode fresh) 0 shownParts) (streamOf (lineA3 ∷ lineB ∷ [])) 0)
+  pub compiled : T (compileOf (runParts (encode fresh) 0 shownParts) (λ c. wrote c (lineA3 ∷ lineB ∷ []) 0))
   pub cutToo : T (isCut refusedParts)
   pub refused : T (refusedWith (runParts (encode fresh) 0 refusedParts) 26 8)
 

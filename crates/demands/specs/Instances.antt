@@ -66,8 +66,8 @@ pub record ShownBack : Type 0 where
   pub sets : Corrected before (one ∷ []) corrected
   pub yanked : TakenBack corrected (setsIn (one ∷ [])) two back
   pub again : TakenBack back (setsIn (two ∷ [])) three restored
-  pub first : T (wrote (compiling before 65520) (streamOf (lineA ∷ lineB ∷ [])) 0)
-  pub changed : T (wrote (compiling corrected 65520) (streamOf (lineA3 ∷ lineB ∷ [])) 0)
+  pub first : T (wrote (compiling before 65520) (lineA ∷ lineB ∷ []) 0)
+  pub changed : T (wrote (compiling corrected 65520) (lineA3 ∷ lineB ∷ []) 0)
 
 -- A HYPOTHESIS LEFT OUT: streams that bring in a library, correction streams, a stream that is to take them back, and which of B1's hypotheses hold
 pub record Attempt : Type 0 where

@@ -1,7 +1,7 @@
 -- 01, "Shown example": the cases (a) to (i) and the compile example, with a dozen more that pin what the example leaves free,
 -- as one statement over one list, which the checker computes.
 --   a case             Case, holds
---   streams            pump, two, three
+--   streams            pump, two, three, chain
 --   the cases          cases
 --   the statement      AllHold
 use Prim.Native.Nat.{ℕ, zero, suc, _+_}
@@ -19,13 +19,14 @@ use Rattle.library.specs.Check.{Checking, good, bad, check}
 use Rattle.library.specs.declared.Fault.{Fault}
 use Rattle.run.specs.Run.{Running, newLibrary, badLibrary, badStream, running, whyNumber}
 use Rattle.run.specs.declared.Why.{Why}
-use Rattle.compile.specs.Walk.{Walk, walked, halted}
-use Rattle.compile.specs.Compile.{Compiling, ofWalk, ofLibrary, compiling, fileOf, program}
+use Rattle.compile.specs.Compile.{Compiling, compiling, compiled, compileInto, compiledNumber, compiledFirst, compiledSecond, program}
+use Rattle.compile.specs.declared.Compiled.{Compiled}
 
 pub data Case : Type 0 where
   gives : List String → List ℕ → Case  -- these lines, run on the fresh library, give these words, and the check reads them back
   refuses : List String → ℕ → ℕ → Case  -- these lines, run on the fresh library, are refused with this number at this line
   compiles : List String → List String → ℕ → Case  -- these lines, run on the fresh library, compile to these lines and so many calls
+  halts : List String → ℕ → ℕ → ℕ → Case  -- these lines, run on the fresh library, do not compile: the number, the card's owner and number
   programs : List String → List String → Case  -- and the program writes these lines for the packed library
   inside : ℕ → List ℕ → Case  -- a run of blanks inside a line is compressed so
   leading : ℕ → List ℕ → Case  -- a run of blanks at its start
@@ -52,15 +53,17 @@ refusedWith (newLibrary l) k n = false
 refusedWith (badLibrary f p) k n = false
 refusedWith (badStream w m) k n = eqb (whyNumber w) k && eqb m n
 
-abbrev pub wrote : Compiling → List ℕ → ℕ → Bool
-wrote (ofWalk (walked ls n)) file m = same (fileOf ls) file && eqb n m
-wrote (ofWalk (halted k o s)) file m = false
-wrote (ofLibrary f p) file m = false
+abbrev pub answered : Compiled → ℕ → ℕ → ℕ → Bool
+answered c k a b = eqb (compiledNumber c) k && eqb (compiledFirst c) a && eqb (compiledSecond c) b
 
-abbrev pub compiledTo : Running → List ℕ → ℕ → Bool
-compiledTo (newLibrary l) file m = wrote (compiling (encode l) 65520) file m
-compiledTo (badLibrary f p) file m = false
-compiledTo (badStream w n) file m = false
+-- the file and its two counts
+abbrev pub wrote : Compiling → List String → ℕ → Bool
+wrote c file m = same (compileInto c []) (streamOf file) && answered (compiled c) 0 (length file) m
+
+abbrev pub compileOf : Running → (Compiling → Bool) → Bool
+compileOf (newLibrary l) test = test (compiling (encode l) 65520)
+compileOf (badLibrary f p) test = false
+compileOf (badStream w n) test = false
 
 abbrev pub programmedTo : Running → List ℕ → Bool
 programmedTo (newLibrary l) file = same (program (packed (encode l))) file
@@ -70,7 +73,8 @@ programmedTo (badStream w n) file = false
 abbrev pub holds : Case → Bool
 holds (gives ls ws) = gave (ranOn ls) ws
 holds (refuses ls k n) = refusedWith (ranOn ls) k n
-holds (compiles ls file m) = compiledTo (ranOn ls) (streamOf file) m
+holds (compiles ls file m) = compileOf (ranOn ls) (λ c. wrote c file m)
+holds (halts ls k o n) = compileOf (ranOn ls) (λ c. answered (compiled c) k o n)
 holds (programs ls file) = programmedTo (ranOn ls) (streamOf file)
 holds (inside n cs) = same (compress (1 ∷ (replicate n gap ++ (2 ∷ [])))) (1 ∷ (cs ++ (2 ∷ [])))
 holds (leading n cs) = same (compress (replicate n gap ++ (2 ∷ []))) (cs ++ (2 ∷ []))
@@ -85,6 +89,12 @@ two = pump ++ ("*IDENT TWO" ∷ "*YANK ONE" ∷ [])
 
 abbrev pub three : List String
 three = two ++ ("*IDENT THREE" ∷ "*YANK TWO" ∷ [])
+
+-- a common deck that calls another, from the first to the last of a chain; the deck P calls the first
+abbrev pub chain : List String
+chain =
+    "*COMDECK C1" ∷ "*CALL C2" ∷ "*CD C2" ∷ "*CALL C3" ∷ "*CD C3" ∷ "*CALL C4" ∷ "*CD C4" ∷ "*CALL C5" ∷ "*CD C5" ∷ "*CALL C6"
+    ∷ "*CD C6" ∷ "*CALL C7" ∷ "*CD C7" ∷ "*CALL C8" ∷ "*DECK P" ∷ "*CALL C1" ∷ []
 
 -- compile lines that several cases share
 abbrev pub lineA : String
@@ -179,6 +189,12 @@ cases =
     (" X                                                                       C               2"
     ∷ " Y                                                                       D               2"
     ∷ " ABCDEFGHIJKLMNOPQRSTUVWXYZ0123456789ABCDEFGHIJKLMNOPQRSTUVWXYZ012345678 P               3" ∷ []) 2
+    -- eight calls deep, and nine
+    ∷ compiles (chain ++ ("*CD C8" ∷ " X" ∷ [])) (" X                                                                       C8              2" ∷ []) 8
+    ∷ halts (chain ++ ("*CD C8" ∷ "*CALL C9" ∷ "*CD C9" ∷ " X" ∷ [])) 42 9 2
+    -- a CALL of no deck, and of one that is not common
+    ∷ halts (pump ++ ("*DECK Q" ∷ "*CALL C" ∷ [])) 40 3 2
+    ∷ halts (pump ++ ("*DECK Q" ∷ "*CALL PUMP" ∷ [])) 41 3 2
     -- a name is looked up in its own library's directory, and nowhere else
     ∷ refuses (pump ++ ("*IDENT TWO" ∷ "*YANK THREE" ∷ [])) 26 8
     ∷ refuses (pump ++ ("*IDENT TWO" ∷ "*YANK PUMP" ∷ [])) 27 8
