@@ -50,3 +50,11 @@ pub mod Decking
 pub mod PartPlaces
 pub mod StreamChanges
 pub mod OverLimits
+pub mod TitleWalk
+pub mod YankMarking
+pub mod MarkedParts
+pub mod RangeMarking
+pub mod RangeAsking
+pub mod YankTests
+pub mod YankPutting
+pub mod Resettling

@@ -2,7 +2,7 @@
 --   31                   fitTests, fitted
 --   the numbers          Sane, SaneAfter
 --   where text goes      TextGoes
---   the relation         Tables, Held
+--   the relation         Tables, Held, HeldUnder
 --   a step               Answered
 use Prim.Native.Nat.{ℕ, suc, _+_, _-_, _≤_}
 use mathlib.Core.Path.{_≡_}
@@ -85,6 +85,21 @@ pub record Held (w dir names decks flags : List ℕ) (d : Desk) (s : State) : Ty
   pub yanks : d .yanks ≡ length (s .lib .yanks)
   pub leads : d .lead ≡ length (cardsWords (yanked (s .lib) 0) (s .lib .yanks))
   pub settled : (n : ℕ) → flagged flags n ≡ yanked (s .lib) 0 n
+  pub set : d .set ≡ isSet (s .kind)
+  pub next : d .next ≡ s .next
+  pub place : TextGoes (s .lib) (length below) (d .place) (s .place)
+  pub safe : Safe s
+
+-- the same where the words have the bits of other flags: a library not settled yet
+pub record HeldUnder (yk : ℕ → Bool) (w dir names decks : List ℕ) (d : Desk) (s : State) : Type 0 where
+  pub below : List Card
+  pub above : List Card
+  pub work : Work w (d .gap) yk below above
+  pub whole : below ++ above ≡ stream (s .lib)
+  pub cards : d .cards ≡ length (stream (s .lib))
+  pub tables : Tables dir names decks d (s .lib)
+  pub yanks : d .yanks ≡ length (s .lib .yanks)
+  pub leads : d .lead ≡ length (cardsWords yk (s .lib .yanks))
   pub set : d .set ≡ isSet (s .kind)
   pub next : d .next ≡ s .next
   pub place : TextGoes (s .lib) (length below) (d .place) (s .place)

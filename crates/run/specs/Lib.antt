@@ -15,3 +15,6 @@ pub mod Safe
 pub mod Desk
 pub mod Obeyed
 pub mod Corrected
+pub mod Resettled
+pub mod RangeSteps
+pub mod YankNames

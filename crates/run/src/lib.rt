@@ -5,10 +5,12 @@ mod fixes;
 mod gap;
 mod marks;
 mod put;
+mod ranges;
 mod seek;
 mod settle;
 mod starts;
 mod texts;
+mod yanks;
 
 ghost use mathlib.Core.Path.{_≡_};
 ghost use Rattle.run.specs.Run.{whyNumber, ranValue};

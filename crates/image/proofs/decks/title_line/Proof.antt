@@ -1,0 +1,47 @@
+-- Only a well-formed DECK or COMDECK line is a title.
+use Rattle.image.proofs.Rows.{title-line}
+use Rattle.library.specs.Library.{deckLine}
+use borrow.Author.Needs.{needs}
+use Rattle.image.proofs.decks.title_line.Statement.{statement}
+use Rattle.image.proofs.decks.title_line.Tie as tie
+
+deck-line-requires : tie.Need-deck-line-requires
+deck-line-requires c κs = search needs
+
+enum-told : tie.Need-enum-told
+enum-told c = search needs
+
+enum-told-2 : tie.Need-enum-told-2
+enum-told-2 c = search needs
+
+enum-known-w : tie.Need-enum-known-w
+enum-known-w c = search needs
+
+enum-known-w-2 : tie.Need-enum-known-w-2
+enum-known-w-2 c = search needs
+
+returns : tie.Need-returns
+returns c = let a = c .before .before .before .before .args in title-line (deckLine (a .line .now)) _ _ (c .before .before .deck-line .ensures) (c .enum-told .given .1)
+
+returns-2 : tie.Need-returns-2
+returns-2 c = let a = c .before .before .before .before .args in title-line (deckLine (a .line .now)) _ _ (c .before .before .deck-line .ensures) (c .enum-told2 .given .1)
+
+returns-3 : tie.Need-returns-3
+returns-3 c = let a = c .before .before .before .before .before .args in title-line (deckLine (a .line .now)) _ _ (c .before .before .before .deck-line .ensures) (c .before .w .given .1)
+
+returns-4 : tie.Need-returns-4
+returns-4 c = let a = c .before .before .before .before .before .args in title-line (deckLine (a .line .now)) _ _ (c .before .before .before .deck-line .ensures) (c .before .w2 .given .1)
+
+pub title-line-spec : {M : Type 1} → statement M
+title-line-spec =
+    tie.close
+    (tie.spec
+    deck-line-requires
+    enum-told
+    enum-told-2
+    enum-known-w
+    enum-known-w-2
+    returns
+    returns-2
+    returns-3
+    returns-4)

@@ -1,0 +1,88 @@
+// Cards as they stand in an image (01, "Cards").
+ghost use mathlib.Core.Path.{_≡_};
+ghost use Prim.Native.Nat.{_+_, _-_, _≤_, _<_};
+ghost use lib.Dec.{leb};
+ghost use lib.ListN.{length, getD};
+ghost use Rattle.words.specs.Base.{if_then_else_};
+ghost use Rattle.image.specs.Places.{textAt, seenAt, lineIn, lineInto};
+use library::Seen;
+use words::Expanded;
+
+// the most columns of a line
+pub(crate) const COLUMNS: usize = 80;
+// bit 59, set when no more history words follow
+const LAST: u64 = 0o40000000000000000000;
+// 58, activity
+const ACTIVE: u64 = 0o20000000000000000000;
+// 53-36 words of text, 35-18 sequence number, 17-00 first history byte
+const TEXT: u64 = 0o1000000000000;
+
+const SEQUENCE: u64 = 0o1000000;
+
+const FIELD: u64 = 0o1000000;
+// of a byte, 15-00 directory number
+const NUMBER: u64 = 0o200000;
+
+// The word at a place, 0 past the end.
+pub fn word_at(image: &[u64], at: usize) -> u64
+    ensures { λ r. ⌜ r ≡ getD (now (image .entry)) at 0 ⌝ }
+{
+    if at < image.len() { image[at] } else { 0 }
+}
+
+// Where a card's text starts: past the first word with bit 59.
+fn text_at(image: &[u64], at: usize) -> usize
+    ensures { λ r. ⌜ (r ≤ length (now (image .entry))) × (at < length (now (image .entry)) → at < r) ⌝ }
+    ensures { λ r. ⌜ r ≡ textAt (now (image .entry)) at ⌝ }
+{
+    let mut i = at;
+    while i < image.len() {
+        if LAST <= image[i] {
+            return i + 1;
+        }
+        i += 1;
+    }
+    image.len()
+}
+
+pub(crate) fn least(a: usize, b: usize) -> usize
+    ensures { λ r. ⌜ r ≡ (if leb a b then a else b) ⌝ }
+    ensures { λ r. ⌜ (r ≤ a) × (r ≤ b) ⌝ }
+{
+    if a <= b { a } else { b }
+}
+
+// The card at a place; past the end nothing stands.
+pub fn see(image: &[u64], at: usize) -> Seen
+    ensures { λ r. ⌜ (r .text ≤ r .next) × ((r .next ≤ length (now (image .entry))) × (at < length (now (image .entry)) → at < r .text)) ⌝ }
+    ensures { λ r. ⌜ (r .seq < 262144) × (r .owner < 65536) ⌝ }
+    ensures { λ r. ⌜ r ≡ seenAt (now (image .entry)) at ⌝ }
+{
+    let w = word_at(image, at);
+    let text = text_at(image, at);
+    Seen {
+        text: text,
+        next: least(text + (w / TEXT % FIELD) as usize, image.len()),
+        owner: w % NUMBER,
+        seq: w / SEQUENCE % FIELD,
+        active: w / ACTIVE % 2 == 1,
+    }
+}
+
+// The line that the words from `from` up to `to` say: how many columns it has.
+pub fn line_of(image: &[u64], from: usize, to: usize, line: &mut [u8; COLUMNS]) -> usize
+    ensures { λ r. ⌜ r ≤ length (now (line .exit)) ⌝ }
+    ensures { λ r. ⌜ r ≡ length (lineIn (now (image .entry)) from to) ⌝ }
+    ensures { λ _. ⌜ now (line .exit) ≡ lineInto (now (image .entry)) from to (now (line .entry)) ⌝ }
+{
+    if image.len() < to {
+        return 0;
+    }
+    if to < from {
+        return 0;
+    }
+    match words::expand(&image[from..to], line) {
+        Expanded::Columns(n) => n,
+        Expanded::NoText => 0,
+    }
+}

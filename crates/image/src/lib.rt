@@ -1,0 +1,12 @@
+// An image read as it stands, whatever its words: its cards, the table of its decks, the flags of its yanked sets.
+mod cards;
+mod decks;
+mod flags;
+mod force;
+mod marks;
+
+pub use cards::line_of;
+pub use cards::see;
+pub use cards::word_at;
+pub use decks::put_table;
+pub use flags::settle;

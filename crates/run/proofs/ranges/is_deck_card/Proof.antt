@@ -1,0 +1,38 @@
+-- The number is 1 and the flag is there and not 0, or it is no deck card.
+use native.Mathlib.Omega.{arith}
+use mathlib.Core.Path.{sym}
+use borrow.Author.Needs.{needs}
+use Rattle.run.proofs.Correcting.{title-other, title-clear, title-set}
+use Rattle.run.proofs.TitleWalk.{title-out}
+use Rattle.run.proofs.ranges.is_deck_card.Statement.{statement}
+use Rattle.run.proofs.ranges.is_deck_card.Tie as tie
+use Rattle.run.proofs.ranges.is_deck_card.Reads as reads
+use Rattle.run.proofs.ranges.is_deck_card.Lts as lts
+
+-- src/ranges.rt:31:9
+returns : tie.Need-returns
+returns c = let a = c .before .args in sym (title-other (a .decks .now) (a .own) (a .seq) (c .if1 .taken))
+
+-- src/ranges.rt:35:9
+returns-2 : tie.Need-returns-2
+returns-2 c = let a = c .before .before .args in sym (title-out (a .decks .now) (a .own) (a .seq) (c .if2 .taken))
+
+-- src/ranges.rt:37:8
+mul-if3 : tie.Need-mul-if3
+mul-if3 c = search needs
+
+-- src/ranges.rt:37:8
+shared-slice-read-if3 : tie.Need-shared-slice-read-if3
+shared-slice-read-if3 c = search needs
+
+-- src/ranges.rt:38:9
+returns-3 : tie.Need-returns-3
+returns-3 c = let a = c .before .before .before .before .args in sym (title-clear (a .decks .now) (a .own) (a .seq) (c .if3 .taken))
+
+-- src/ranges.rt:27:1
+returns-4 : tie.Need-returns-4
+returns-4 c = let a = c .before .before .before .before .args in sym (title-set (a .decks .now) (a .own) (a .seq) (omega (arith, c .before .before .before .if1 .left)) (c .if3 .left))
+
+pub is-deck-card-spec : {M : Type 1} → statement M
+is-deck-card-spec =
+    tie.close (tie.spec returns returns-2 mul-if3 shared-slice-read-if3 returns-3 returns-4)

@@ -1,0 +1,187 @@
+// DELETE and RESTORE (01, "Directives"): the range is sought, tested for deck cards, and marked; where it is in YANK$$$, all bits are settled again.
+ghost use mathlib.Core.Path.{_≡_};
+ghost use Prim.Native.Nat.{ℕ, _≤_, _<_};
+ghost use lib.ListN.{length};
+ghost use Rattle.run.specs.GapWords.{Ordered};
+ghost use Rattle.run.specs.Desk.{Sane, SaneAfter};
+ghost use Rattle.run.specs.Corrected.{titled};
+ghost use Rattle.run.specs.Resettled.{MarkSteps};
+ghost use Rattle.run.specs.RangeSteps.{HasTitle, LeadAfter, YankMarks, MarksFound};
+use crate::Why;
+use crate::card::see;
+use crate::desk::Desk;
+use crate::desk::Stepped;
+use crate::desk::TextAt;
+use crate::desk::limited;
+use crate::fixes::Sought;
+use crate::fixes::seek_card;
+use crate::gap::Gap;
+use crate::gap::open_ahead;
+use crate::gap::open_at;
+use crate::marks::Marked;
+use crate::marks::mark_between;
+use crate::yanks::resettle;
+use lines::CardName;
+
+// Whether a card with this owner and number, as it was read, is a deck's.
+fn is_deck_card(decks: &[u64], own: u64, seq: u64) -> bool
+    ensures { λ b. ⌜ b ≡ titled (now (decks .entry)) own seq ⌝ }
+{
+    if seq != 1 {
+        return false;
+    }
+    let n = own as usize;
+    if decks.len() <= n {
+        return false;
+    }
+    if decks[n] == 0 {
+        return false;
+    }
+    true
+}
+
+// Whether one of the n cards from `from` on is a deck card.
+fn has_title(w: &[u64], decks: &[u64], from: usize, n: usize) -> bool
+    requires { ⌜ (from ≤ length (now w)) × (length (now w) ≤ 65536) ⌝ }
+    ensures { λ b. ⌜ HasTitle (now (w .entry)) (now (decks .entry)) from n b ⌝ }
+{
+    let mut at = from;
+    let mut left = n;
+    while 0 < left {
+        if w.len() <= at {
+            return false;
+        }
+        let c = see(w, at);
+        if is_deck_card(decks, c.owner, c.seq) {
+            return true;
+        }
+        at = at + c.heads + c.count;
+        left -= 1;
+    }
+    false
+}
+
+// The words of YANK$$$ after its cards were marked: all words but those of the decks, which are as many as before.
+fn lead_after(end: usize, d: Desk, h: Gap) -> usize
+    requires { ⌜ (d .gap .lo ≤ d .gap .hi) × ((d .gap .hi ≤ end) × ((h .lo ≤ h .hi) × ((h .hi ≤ end) × (end ≤ 65536)))) ⌝ }
+    ensures { λ r. ⌜ r ≤ 65536 ⌝ }
+    ensures { λ r. ⌜ LeadAfter end d h r ⌝ }
+{
+    let g = d.gap;
+    let lead = d.lead;
+    let before = g.lo + (end - g.hi);
+    let after = h.lo + (end - h.hi);
+    if before < lead {
+        return 0;
+    }
+    let rest = before - lead;
+    if after < rest {
+        return 0;
+    }
+    after - rest
+}
+
+// A range of YANK$$$ is marked, and h is the gap after that: all of YANK$$$ comes below the gap, and the bits are settled.
+fn yank_marked(w: &mut [u64], dir: &[u64], flags: &mut [u64], d: Desk, h: Gap) -> Stepped
+    requires { ⌜ Sane (now w) d × (Ordered (now w) h × ((length (now dir) ≡ 1024) × (1024 < length (now flags)))) ⌝ }
+    ensures { λ e. ⌜ SaneAfter (now (w .exit)) e ⌝ }
+    ensures { λ e. ⌜ YankMarks (now (w .entry)) (now (dir .entry)) d h (now (w .exit)) (now (flags .exit)) e ⌝ }
+{
+    let n = lead_after(w.len(), d, h);
+    let m = open_at(w, h, n);
+    let r = limited(Desk {
+        gap: m,
+        entries: d.entries,
+        decks: d.decks,
+        cards: d.cards,
+        yanks: d.yanks,
+        lead: m.lo,
+        set: d.set,
+        next: d.next,
+        place: TextAt::Yanks,
+    });
+    match r {
+        Stepped::Went(e) => {
+            resettle(w, dir, flags, e);
+            Stepped::Went(e)
+        }
+        Stepped::Refused(y) => Stepped::Refused(y),
+    }
+}
+
+// The range from the card f to the card l, which has the number seq: 30 where it has a deck card, else its cards are marked.
+fn mark_found(
+    w: &mut [u64],
+    dir: &[u64],
+    decks: &[u64],
+    flags: &mut [u64],
+    d: Desk,
+    was: u64,
+    f: Sought,
+    l: Sought,
+    seq: u64,
+) -> Stepped
+    requires { ⌜ Sane (now w) d × ((length (now dir) ≡ 1024) × ((1024 < length (now flags)) × ((was < 2) × ((f .index ≤ l .index) × (l .index ≤ 16383))))) ⌝ }
+    ensures { λ e. ⌜ SaneAfter (now (w .exit)) e ⌝ }
+    ensures { λ e. ⌜ MarksFound (now (w .entry)) (now (dir .entry)) (now (decks .entry)) (now (flags .entry)) d was f l seq (now (w .exit)) (now (flags .exit)) e ⌝ }
+{
+    let g = d.gap;
+    let h = open_ahead(w, g, f.at);
+    let at = h.hi;
+    if has_title(w, decks, at, l.index - f.index + 1) {
+        return Stepped::Refused(Why::Barred);
+    }
+    let m = mark_between(w, h, at, l.own, seq, was, d.entries as u64);
+    match m {
+        Marked::NoCard => Stepped::Refused(Why::NoCard),
+        Marked::Limit => Stepped::Refused(Why::Limit),
+        Marked::Done(k) => {
+            if f.index < d.yanks {
+                return yank_marked(w, dir, flags, d, k);
+            }
+            limited(Desk {
+                gap: k,
+                entries: d.entries,
+                decks: d.decks,
+                cards: d.cards,
+                yanks: d.yanks,
+                lead: d.lead,
+                set: d.set,
+                next: d.next,
+                place: TextAt::Gap,
+            })
+        }
+    }
+}
+
+// DELETE (was 1) and RESTORE (was 0).
+pub(crate) fn mark_step(
+    w: &mut [u64],
+    dir: &[u64],
+    decks: &[u64],
+    flags: &mut [u64],
+    d: Desk,
+    was: u64,
+    a: CardName,
+    b: CardName,
+) -> Stepped
+    requires { ⌜ Sane (now w) d × ((length (now dir) ≡ 1024) × ((1024 < length (now decks)) × ((1024 < length (now flags)) × (was < 2)))) ⌝ }
+    ensures { λ e. ⌜ SaneAfter (now (w .exit)) e ⌝ }
+    ensures { λ e. ⌜ MarkSteps (now (w .entry)) (now (dir .entry)) (now (decks .entry)) (now (flags .entry)) d was a b (now (w .exit)) (now (flags .exit)) e ⌝ }
+{
+    if !d.set {
+        return Stepped::Refused(Why::Nowhere);
+    }
+    let f = seek_card(w, dir, d, a);
+    if d.cards <= f.index {
+        return Stepped::Refused(Why::NoCard);
+    }
+    let l = seek_card(w, dir, d, b);
+    if d.cards <= l.index {
+        return Stepped::Refused(Why::NoCard);
+    }
+    if l.index < f.index {
+        return Stepped::Refused(Why::Backwards);
+    }
+    mark_found(w, dir, decks, flags, d, was, f, l, b.seq)
+}
