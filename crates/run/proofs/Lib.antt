@@ -58,3 +58,11 @@ pub mod RangeAsking
 pub mod YankTests
 pub mod YankPutting
 pub mod Resettling
+pub mod Obeying
+pub mod Streaming
+pub mod Writing
+pub mod Flagging
+pub mod Titling
+pub mod Loading
+pub mod TakenUp
+pub mod Running

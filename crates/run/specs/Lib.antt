@@ -18,3 +18,6 @@ pub mod Corrected
 pub mod Resettled
 pub mod RangeSteps
 pub mod YankNames
+pub mod Streamed
+pub mod Written
+pub mod Loaded

@@ -1,19 +1,27 @@
 // The correction run: units, corrections, and the stream as a whole.
 mod card;
+mod carry;
 mod desk;
 mod fixes;
 mod gap;
+mod load;
 mod marks;
+mod obey;
 mod put;
 mod ranges;
+mod runs;
 mod seek;
 mod settle;
 mod starts;
+mod streams;
 mod texts;
 mod yanks;
 
 ghost use mathlib.Core.Path.{_≡_};
-ghost use Rattle.run.specs.Run.{whyNumber, ranValue};
+ghost use lib.ListN.{length};
+ghost use Rattle.run.specs.Run.{whyNumber, ranNumber, ranValue, running, ran, runInto};
+use crate::runs::run_stream;
+use library::Checked;
 use library::Fault;
 
 // Why a stream is refused: 01's rows 19 to 32.
@@ -77,6 +85,17 @@ pub fn why_number(y: Why) -> u64
     }
 }
 
+// 0, or the row of 01's table.
+pub fn ran_number(r: Ran) -> u64
+    ensures { λ n. ⌜ n ≡ ranNumber r ⌝ }
+{
+    match r {
+        Ran::Done(_) => 0,
+        Ran::Library(f, _) => library::fault_number(f),
+        Ran::Refused(y, _) => why_number(y),
+    }
+}
+
 // The words written, or the place.
 pub fn ran_value(r: Ran) -> u64
     ensures { λ n. ⌜ n ≡ ranValue r ⌝ }
@@ -85,5 +104,16 @@ pub fn ran_value(r: Ran) -> u64
         Ran::Done(n) => n as u64,
         Ran::Library(_, p) => p as u64,
         Ran::Refused(_, n) => n as u64,
+    }
+}
+
+// The correction run: the new library is written to the space where the old one and the stream are accepted.
+pub fn run(old: &[u64], stream: &[u8], space: &mut [u64]) -> Ran
+    ensures answer { λ r. ⌜ r ≡ ran (running (now (old .entry)) (now (stream .entry)) (length (now (space .entry)))) ⌝ }
+    ensures { λ _. ⌜ now (space .exit) ≡ runInto (running (now (old .entry)) (now (stream .entry)) (length (now (space .entry)))) (now (space .entry)) ⌝ }
+{
+    match library::check(old) {
+        Checked::Refused(f, p) => Ran::Library(f, p),
+        Checked::Sound => run_stream(old, stream, space),
     }
 }

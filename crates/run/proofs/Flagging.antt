@@ -1,0 +1,93 @@
+-- Flags cleared from the first on, then those of a list's numbers set one after another: what is flagged and what is still to do together stay the same.
+use Prim.Native.Nat.{ℕ, suc, _+_, _≤_, _<_}
+use native.Mathlib.Omega.{arith}
+use mathlib.Core.Path.{_≡_, refl, sym, ap, ap₂, _∙_}
+use mathlib.Core.Bool.{Bool, true, false, _||_, not}
+use mathlib.Core.List.{List, _∷_, map}
+use lib.Dec.{eqb}
+use lib.ListN.{length, take, drop, set, getD, List·getD-eq-default, drop-of-length-le}
+use lib.Seq.{drop-cons, getD-take, getD-set-same, getD-set-other}
+use Rattle.words.specs.Base.{member}
+use Rattle.run.specs.SettledBits.{flagged}
+use Rattle.run.specs.Loaded.{NoFlags}
+use Rattle.run.proofs.FlatFind.{compared, eqb-yes, eqb-no}
+
+-- CLEARED up to the flag i
+abbrev pub Cleared : List ℕ → ℕ → Type 0
+Cleared flags i = (m : ℕ) → m < i → getD flags m 0 ≡ 0
+
+pub clear-start : (flags : List ℕ) → Cleared flags 0
+clear-start flags m lt = absurd (omega arith)
+
+pub clear-more : (flags : List ℕ) (i : ℕ) → i < length flags → Cleared flags i → Cleared (set flags i 0) (i + 1)
+clear-more flags i within h m lt =
+    compared (getD (set flags i 0) m 0 ≡ 0) m i
+    (λ a. getD-set-other flags i m 0 0 (λ e. omega arith) ∙ h m a)
+    (λ e. ap (λ (k : ℕ). getD (set flags i 0) k 0) e ∙ getD-set-same flags i 0 0 within)
+    (λ a. absurd (omega arith))
+
+pub clear-end : (flags : List ℕ) (i : ℕ) → length flags ≤ i → Cleared flags i → NoFlags flags
+unfolding flagged
+clear-end flags i le h m = ap (λ (k : ℕ). not (eqb k 0)) zero-at
+  where
+    zero-at : getD flags m 0 ≡ 0
+    zero-at =
+        compared (getD flags m 0 ≡ 0) m (length flags)
+        (λ a. h m (omega arith))
+        (λ e. List·getD-eq-default flags 0 {n = m} (omega arith))
+        (λ a. List·getD-eq-default flags 0 {n = m} (omega arith))
+
+-- SET: the numbers `of` the names from i on are still to do
+abbrev pub StillFlags : (ℕ → ℕ) → List ℕ → List ℕ → ℕ → List ℕ → Type 0
+StillFlags of ns names i flags = (m : ℕ) → (flagged flags m || member m (map of (drop i names))) ≡ member m ns
+
+flag-set : (flags : List ℕ) (n m : ℕ) → n < length flags → flagged (set flags n 1) m ≡ (flagged flags m || eqb m n)
+unfolding flagged
+flag-set flags n m within =
+    compared _ m n
+    (λ a. other (λ e. omega arith))
+    (λ e. ap (λ (k : ℕ). not (eqb (getD (set flags n 1) k 0) 0)) e ∙ ap (λ (k : ℕ). not (eqb k 0)) (getD-set-same flags n 1 0 within) ∙ sym (or-true (not (eqb (getD flags m 0) 0))) ∙ ap (λ (b : Bool). not (eqb (getD flags m 0) 0) || b) (sym (eqb-yes m n e)))
+    (λ a. other (λ e. omega arith))
+  where
+    or-true : (a : Bool) → (a || true) ≡ true
+    or-true true = refl
+    or-true false = refl
+
+    or-false : (a : Bool) → (a || false) ≡ a
+    or-false true = refl
+    or-false false = refl
+
+    other : (m ≡ n → ⊥) → not (eqb (getD (set flags n 1) m 0) 0) ≡ (not (eqb (getD flags m 0) 0) || eqb m n)
+    other ne =
+        ap (λ (k : ℕ). not (eqb k 0)) (getD-set-other flags n m 1 0 ne)
+        ∙ sym (or-false (not (eqb (getD flags m 0) 0))) ∙ ap (λ (b : Bool). not (eqb (getD flags m 0) 0) || b) (sym (eqb-no m n ne))
+
+or-parts : (a b c : Bool) → ((a || b) || c) ≡ (a || (b || c))
+or-parts true b c = refl
+or-parts false b c = refl
+
+pub flag-start : (of : ℕ → ℕ) (names : List ℕ) (i : ℕ) (flags : List ℕ) → NoFlags flags → StillFlags of (map of (drop i names)) names i flags
+flag-start of names i flags h m = ap (λ (b : Bool). b || member m (map of (drop i names))) (h m)
+
+pub flag-more : (of : ℕ → ℕ) (ns names : List ℕ) (k i : ℕ) (flags : List ℕ) (e : ℕ) → i < k → k ≤ length names → e < length flags
+    → e ≡ of (getD names i 0) → StillFlags of ns (take k names) i flags → StillFlags of ns (take k names) (i + 1) (set flags e 1)
+flag-more of ns names k i flags e lt le within is h m =
+    let L : List ℕ = take k names in
+    let long : length L ≡ k = lib.Seq.length-take-le k names le in
+    let here : drop i L ≡ getD names i 0 ∷ drop (suc i) L = drop-cons L i 0 (omega arith) ∙ ap (λ (x : ℕ). x ∷ drop (suc i) L) (getD-take k names i 0 lt) in
+    let next : i + 1 ≡ suc i = omega arith in
+    ap₂ (λ (b : Bool) (j : ℕ). b || member m (map of (drop j L))) (flag-set flags e m within) next
+    ∙ or-parts (flagged flags m) (eqb m e) (member m (map of (drop (suc i) L)))
+    ∙ ap (λ (x : ℕ). flagged flags m || (eqb m x || member m (map of (drop (suc i) L)))) is
+    ∙ ap (λ (r : List ℕ). flagged flags m || member m (map of r)) (sym here)
+    ∙ h m
+
+pub flag-end : (of : ℕ → ℕ) (ns names : List ℕ) (k i : ℕ) (flags : List ℕ) → k ≤ length names → k ≤ i → StillFlags of ns (take k names) i flags
+    → (m : ℕ) → flagged flags m ≡ member m ns
+flag-end of ns names k i flags le done h m =
+    let long : length (take k names) ≡ k = lib.Seq.length-take-le k names le in
+    or-none (flagged flags m) ∙ ap (λ (r : List ℕ). flagged flags m || member m (map of r)) (sym (drop-of-length-le (take k names) {i = i} (omega arith))) ∙ h m
+  where
+    or-none : (a : Bool) → a ≡ (a || false)
+    or-none true = refl
+    or-none false = refl

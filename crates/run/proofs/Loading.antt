@@ -1,0 +1,157 @@
+-- An image that the check accepted is the image of the library that was read, so its parts are that library's tables and cards.
+use Prim.Native.Nat.{ℕ, suc, _+_, _-_, _/_, _%_, _^_, _≤_, _<_}
+use native.Mathlib.Omega.{arith}
+use native.Mathlib.Nat.{zero-add}
+use mathlib.Core.Path.{_≡_, refl, sym, ap, ap₂, _∙_}
+use mathlib.Core.Bool.{Bool, true, false, _&&_, _||_}
+use mathlib.Core.List.{List, [], _∷_, _++_, map, append-assoc}
+use lib.Dec.{T, eqb}
+use lib.ListN.{length, take, drop, getD, length-map}
+use lib.Seq.{paste, take-paste, drop-drop, take-append-seam, drop-append-seam, take-all}
+use Rattle.words.specs.Base.{if_then_else_, member, all}
+use Rattle.library.specs.Each.{Each}
+use Rattle.library.specs.Library.{Byte, Card, Deck, Library, deckCards, joined, stream, nameAt, entryOf, deckNames}
+use Rattle.library.specs.Yanks.{yanked}
+use Rattle.library.specs.Image.{cardsWords, counts, tables}
+use Rattle.library.specs.Check.{good, check}
+use Rattle.library.specs.Sound.{noTwo, sameName, isNamed, SoundDeck, Sound}
+use Rattle.library.proofs.CheckEncode.{check-encode}
+use Rattle.library.proofs.CheckSound.{check-sound}
+use Rattle.library.proofs.Each.{and-parts}
+use Rattle.library.proofs.EntryNames.{entry-name}
+use Rattle.run.specs.CardHeads.{Fits}
+use Rattle.run.specs.CardSeek.{indexOf}
+use Rattle.run.specs.Flat.{indexBy, deckNumbers, isDeckCard}
+use Rattle.run.specs.SettledBits.{flagged}
+use Rattle.run.specs.Loaded.{titledCard, Readable}
+use Rattle.run.proofs.FlatFind.{eqb-yes, eqb-no}
+use Rattle.run.proofs.FlatStream.{encode-flat}
+use Rattle.run.proofs.FlatDecks.{deck-spot-card}
+use Rattle.run.proofs.FlatLimits.{words, encode-length, Small, within-small}
+
+-- THE PARTS OF AN IMAGE
+module _ (old : List ℕ) (l : Library) (ok : check old ≡ good l) where
+  abbrev n : ℕ
+  n = length (l .directory)
+
+  abbrev k : ℕ
+  k = suc (length (l .decks))
+
+  abbrev cards : List ℕ
+  cards = cardsWords (yanked l 0) (stream l)
+
+  pub loaded-sound : Sound l
+  loaded-sound = check-sound old l ok
+
+  pub loaded-small : Small l
+  loaded-small = within-small l (loaded-sound .limits)
+
+  flat : old ≡ tables l ++ cards
+  flat = sym (check-encode old l ok) ∙ encode-flat l
+
+  second : getD old 1 0 ≡ counts l
+  second = ap (λ (x : List ℕ). getD x 1 0) flat
+
+  pub entries-are : getD old 1 0 / 2 ^ 18 ≡ length (l .directory)
+  entries-are = let s = loaded-small in omega (arith, second, s .entries, s .decks)
+
+  pub decks-are : getD old 1 0 % 2 ^ 18 ≡ suc (length (l .decks))
+  decks-are = let s = loaded-small in omega (arith, second, s .entries, s .decks)
+
+  pub image-long : length old ≡ 3 + length (l .directory) + length (l .decks) + length (cardsWords (yanked l 0) (stream l))
+  unfolding words
+  image-long = ap length (sym (check-encode old l ok)) ∙ encode-length l
+
+  pub readable : Readable old
+  unfolding words
+  readable =
+      let s = loaded-small in
+      record {
+        lib = l;
+        accepted = ok;
+        long = omega (arith, image-long, s .total);
+        entries = omega (arith, entries-are, s .entries);
+        some = omega (arith, decks-are);
+        decks = omega (arith, decks-are, s .decks);
+        tables = omega (arith, entries-are, decks-are, image-long);
+      }
+
+  names-long : length (deckNames l) ≡ suc (length (l .decks))
+  unfolding deckNames
+  names-long = ap suc (length-map (l .decks) (λ d. nameAt (l .directory) (d .number)))
+
+  behind-head : drop 2 old ≡ l .directory ++ (deckNames l ++ cards)
+  behind-head = ap (drop 2) flat ∙ append-assoc (l .directory) (deckNames l) cards
+
+  behind-directory : drop (2 + n) old ≡ deckNames l ++ cards
+  behind-directory = sym (drop-drop n 2 old) ∙ ap (drop n) behind-head ∙ drop-append-seam (l .directory) (deckNames l ++ cards)
+
+  behind-names : drop (2 + n + k) old ≡ cards
+  behind-names =
+      sym (drop-drop k (2 + n) old) ∙ ap (drop k) behind-directory
+      ∙ ap (λ (i : ℕ). drop i (deckNames l ++ cards)) (sym names-long) ∙ drop-append-seam (deckNames l) cards
+
+  pub directory-is : take n (drop 2 old) ≡ l .directory
+  directory-is = ap (take n) behind-head ∙ take-append-seam (l .directory) (deckNames l ++ cards)
+
+  pub names-are : take k (drop (2 + n) old) ≡ deckNames l
+  names-are =
+      ap (take k) behind-directory ∙ ap (λ (i : ℕ). take i (deckNames l ++ cards)) (sym names-long) ∙ take-append-seam (deckNames l) cards
+
+  pub cards-are : drop (2 + n + k) old ≡ cardsWords (yanked l 0) (stream l)
+  cards-are = behind-names
+
+-- COPIED to an array's start
+pub taken : (d s : List ℕ) (i : ℕ) → i ≤ length s → take i (paste d 0 s i) ≡ take i s
+taken d s i le = ap (λ (j : ℕ). take j (paste d 0 s i)) (sym (zero-add i)) ∙ take-paste d 0 s i (omega arith) le
+
+pub begun : (d s : List ℕ) (i : ℕ) → length s ≡ i → paste d 0 s i ≡ s ++ drop i d
+begun d s i e = ap₂ (λ (x : List ℕ) (j : ℕ). x ++ drop j d) (take-all i s (omega arith)) (zero-add i)
+
+-- COUNTED: no card is owned by 0
+pub none-of-zero : (cs : List Card) → Each Fits cs → indexOf 0 0 cs ≡ length cs
+unfolding indexOf
+none-of-zero [] f = refl
+none-of-zero (c ∷ cs) f =
+    let a : 0 < c .owner = f .0 .first .0 in
+    ap (λ (b : Bool). if b && eqb (c .seq) 0 then 0 else (suc (indexOf 0 0 cs))) (eqb-no (c .owner) 0 (λ e. omega arith)) ∙ ap suc (none-of-zero cs (f .1))
+
+-- THE DECKS' NUMBERS by their names
+numbers-back : (directory : List ℕ) → T (noTwo sameName directory) → (ds : List Deck) → Each (SoundDeck directory) ds
+    → map (entryOf directory) (map (λ d. nameAt directory (d .number)) ds) ≡ map (λ d. d .number) ds
+numbers-back directory once [] h = refl
+numbers-back directory once (d ∷ ds) h =
+    let named : T (isNamed directory (d .number)) = and-parts (isNamed directory (d .number)) (all (λ (b : Byte). isNamed directory (b .number)) []) (h .0 .first .named) .0 in
+    ap₂ {C = List ℕ} (λ (x : ℕ) (xs : List ℕ). x ∷ xs) (entry-name directory once (d .number) named) (numbers-back directory once ds (h .1))
+
+pub listed-numbers : (l : Library) → Sound l → map (entryOf (l .directory)) (drop 1 (deckNames l)) ≡ deckNumbers l
+unfolding deckNames
+listed-numbers l s = numbers-back (l .directory) (s .names) (l .decks) (s .decks)
+
+-- YANK$$$ ENDS at the first deck card
+abbrev Opens : (Card → Bool) → List Card → Type 0
+Opens p [] = Unit {0}
+Opens p (c ∷ cs) = p c ≡ true
+
+index-after : (p : Card → Bool) (cs ds : List Card) → ((i : ℕ) (c : Card) (rest : List Card) → i < length cs → drop i (cs ++ ds) ≡ c ∷ rest → p c ≡ false) → Opens p ds
+    → indexBy p (cs ++ ds) ≡ length cs
+index-after p [] [] f o = refl
+index-after p [] (d ∷ ds) f o = ap (λ (b : Bool). if b then 0 else (suc (indexBy p ds))) o
+index-after p (c ∷ cs) ds f o =
+    ap (λ (b : Bool). if b then 0 else (suc (indexBy p (cs ++ ds)))) (f 0 c (cs ++ ds) (omega arith) refl)
+    ∙ ap suc (index-after p cs ds (λ i x rest lt e. f (suc i) x rest (omega arith) e) o)
+
+deck-opens : (ds : List Deck) → Opens (isDeckCard (map (λ d. d .number) ds)) (joined (map deckCards ds))
+deck-opens [] = tt
+deck-opens (d ∷ ds) = ap (λ (b : Bool). b || member (d .number) (map (λ x. x .number) ds)) (eqb-yes (d .number) (d .number) refl)
+
+pub yanks-end : (l : Library) → Sound l → indexBy (isDeckCard (deckNumbers l)) (stream l) ≡ length (l .yanks)
+unfolding stream
+yanks-end l s = index-after (isDeckCard (deckNumbers l)) (l .yanks) (joined (map deckCards (l .decks))) plain (deck-opens (l .decks))
+  where
+    plain : (i : ℕ) (c : Card) (rest : List Card) → i < length (l .yanks) → drop i (l .yanks ++ joined (map deckCards (l .decks))) ≡ c ∷ rest → isDeckCard (deckNumbers l) c ≡ false
+    plain i c rest lt e =
+        sym (deck-spot-card l s (record { part = 0; index = i }) lt c rest (ap (λ (j : ℕ). drop j (stream l)) (zero-add i) ∙ e))
+
+pub titles-end : (l : Library) → Sound l → (decks : List ℕ) → ((m : ℕ) → flagged decks m ≡ member m (deckNumbers l)) → indexBy (titledCard decks) (stream l) ≡ length (l .yanks)
+titles-end l s decks h = (λ i. indexBy (λ c. eqb (c .seq) 1 && h (c .owner) i) (stream l)) ∙ yanks-end l s

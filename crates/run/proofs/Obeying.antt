@@ -1,0 +1,77 @@
+-- What each step promises is what its line asks, over the five arrays; a line that is refused or skipped changes none of them.
+use Prim.Native.Nat.{ℕ}
+use mathlib.Core.Path.{_≡_, refl, sym, subst}
+use mathlib.Core.Bool.{true, false}
+use mathlib.Core.List.{List}
+use Rattle.lines.specs.Directive.{directive}
+use Rattle.lines.specs.declared.CardName.{CardName}
+use Rattle.lines.specs.declared.Line.{Line}
+use Rattle.lines.specs.declared.Line.the-variants.{Text, Skipped, Deck as DeckLine·, Comdeck, Ident, Insert, Before, Delete, Restore, Yank as YankLine, Outside as LineOutside, Long as LineLong, Malformed as LineMalformed, NotCarried as LineNotCarried}
+use Rattle.run.specs.Step.{obey, step}
+use Rattle.run.specs.Desk.{Sane}
+use Rattle.run.specs.Obeyed.{TextSteps, IdentSteps, DeckSteps}
+use Rattle.run.specs.Corrected.{InsertSteps, BeforeSteps}
+use Rattle.run.specs.Resettled.{MarkSteps, YankSteps, Arrays, AnsweredIn, ObeysLine}
+use Rattle.run.specs.Streamed.{inArrays}
+use Rattle.run.specs.declared.desk.Desk.{Desk}
+use Rattle.run.specs.declared.desk.Stepped.{Stepped}
+use Rattle.run.specs.declared.desk.Stepped.the-variants.{Went as SteppedOn, Refused as SteppedOff}
+use Rattle.run.specs.declared.Why.the-variants.{Outside, Long, Malformed, NotCarried}
+
+-- a line that is skipped, and those that are refused for what they are
+pub skipped-obeys : (a : Arrays) (d : Desk) (line : List ℕ) → directive line ≡ Skipped → ObeysLine a d line a (SteppedOn d)
+unfolding step
+skipped-obeys a d line e s held = subst (λ (x : Line). AnsweredIn a (SteppedOn d) (obey s line x)) (sym e) held
+
+pub outside-obeys : (a : Arrays) (d : Desk) (line : List ℕ) → directive line ≡ LineOutside → ObeysLine a d line a (SteppedOff Outside)
+unfolding step
+outside-obeys a d line e s held = subst (λ (x : Line). AnsweredIn a (SteppedOff Outside) (obey s line x)) (sym e) refl
+
+pub long-obeys : (a : Arrays) (d : Desk) (line : List ℕ) → directive line ≡ LineLong → ObeysLine a d line a (SteppedOff Long)
+unfolding step
+long-obeys a d line e s held = subst (λ (x : Line). AnsweredIn a (SteppedOff Long) (obey s line x)) (sym e) refl
+
+pub malformed-obeys : (a : Arrays) (d : Desk) (line : List ℕ) → directive line ≡ LineMalformed → ObeysLine a d line a (SteppedOff Malformed)
+unfolding step
+malformed-obeys a d line e s held = subst (λ (x : Line). AnsweredIn a (SteppedOff Malformed) (obey s line x)) (sym e) refl
+
+pub carried-obeys : (a : Arrays) (d : Desk) (line : List ℕ) → directive line ≡ LineNotCarried → ObeysLine a d line a (SteppedOff NotCarried)
+unfolding step
+carried-obeys a d line e s held = subst (λ (x : Line). AnsweredIn a (SteppedOff NotCarried) (obey s line x)) (sym e) refl
+
+-- text, units, corrections
+module _ (w dir names decks flags : List ℕ) (d : Desk) (line : List ℕ) (r : Stepped) where
+  pub text-obeys : (v : List ℕ) → directive line ≡ Text → TextSteps w d line v r → ObeysLine (inArrays w dir names decks flags) d line (inArrays v dir names decks flags) r
+  text-obeys v e h s held = h dir names decks flags s e held
+
+  pub ident-obeys : (word : ℕ) (newDir : List ℕ) → Sane w d → directive line ≡ Ident word → IdentSteps dir d word newDir r
+      → ObeysLine (inArrays w dir names decks flags) d line (inArrays w newDir names decks flags) r
+  ident-obeys word newDir sane e h s held = h w names decks flags line s sane e held
+
+  pub deck-obeys : (word : ℕ) (v newDir newNames newDecks : List ℕ) → directive line ≡ DeckLine· word → DeckSteps w dir names decks d word line v newDir newNames newDecks r
+      → ObeysLine (inArrays w dir names decks flags) d line (inArrays v newDir newNames newDecks flags) r
+  deck-obeys word v newDir newNames newDecks e h s held = h false flags s e held
+
+  pub comdeck-obeys : (word : ℕ) (v newDir newNames newDecks : List ℕ) → directive line ≡ Comdeck word → DeckSteps w dir names decks d word line v newDir newNames newDecks r
+      → ObeysLine (inArrays w dir names decks flags) d line (inArrays v newDir newNames newDecks flags) r
+  comdeck-obeys word v newDir newNames newDecks e h s held = h true flags s e held
+
+  pub insert-obeys : (c : CardName) (v : List ℕ) → directive line ≡ Insert c → InsertSteps w dir d c v r
+      → ObeysLine (inArrays w dir names decks flags) d line (inArrays v dir names decks flags) r
+  insert-obeys c v e h s held = h names decks flags line s e held
+
+  pub before-obeys : (c : CardName) (v : List ℕ) → directive line ≡ Before c → BeforeSteps w dir decks d c v r
+      → ObeysLine (inArrays w dir names decks flags) d line (inArrays v dir names decks flags) r
+  before-obeys c v e h s held = h names flags line s e held
+
+  pub delete-obeys : (a b : CardName) (v newFlags : List ℕ) → directive line ≡ Delete a b → MarkSteps w dir decks flags d 1 a b v newFlags r
+      → ObeysLine (inArrays w dir names decks flags) d line (inArrays v dir names decks newFlags) r
+  delete-obeys a b v newFlags e h s held = h names line s e held
+
+  pub restore-obeys : (a b : CardName) (v newFlags : List ℕ) → directive line ≡ Restore a b → MarkSteps w dir decks flags d 0 a b v newFlags r
+      → ObeysLine (inArrays w dir names decks flags) d line (inArrays v dir names decks newFlags) r
+  restore-obeys a b v newFlags e h s held = h names line s e held
+
+  pub yank-obeys : (v newFlags : List ℕ) → directive line ≡ YankLine → YankSteps w dir names flags d line v newFlags r
+      → ObeysLine (inArrays w dir names decks flags) d line (inArrays v dir names decks newFlags) r
+  yank-obeys v newFlags e h s held = h decks s e held

@@ -1,0 +1,115 @@
+-- A run from the check to the answer: taken up, its lines obeyed, written out, each part in the words of the definitions.
+use Prim.Native.Nat.{ℕ, _≤_, _<_}
+use native.Mathlib.Omega.{arith}
+use mathlib.Core.Path.{_≡_, refl, sym, ap, ap₂, _∙_, subst}
+use mathlib.Core.Bool.{Bool}
+use mathlib.Core.List.{List}
+use lib.ListN.{length}
+use Rattle.words.specs.Base.{if_then_else_}
+use Rattle.lines.specs.Directive.{lines}
+use Rattle.library.specs.Library.{Library}
+use Rattle.library.specs.Yanks.{yanked}
+use Rattle.library.specs.Check.{Checking, good, bad, check, checked}
+use Rattle.library.specs.declared.Fault.{Fault}
+use Rattle.library.specs.declared.Checked.the-variants.{Sound as CheckedSound, Refused as CheckedRefused}
+use Rattle.run.specs.Step.{start}
+use Rattle.run.specs.Run.{Steps, ended, stopped, steps, notUpdated, fitted, update, fromUpdated, fromChecked, running, ran, runInto}
+use Rattle.run.specs.Desk.{Sane}
+use Rattle.run.specs.Resettled.{Resettled, Arrays}
+use Rattle.run.specs.Streamed.{inArrays, EndedIn, ObeysStream}
+use Rattle.run.specs.Written.{afterLines, Answers, Finishes, Begins, RunsFrom, RunsLines, RunsStream}
+use Rattle.run.specs.Loaded.{Loads}
+use Rattle.run.specs.declared.desk.Desk.{Desk}
+use Rattle.run.specs.declared.streams.Ended.the-variants.{Ended as EndedOn, Stopped as EndedOff}
+use Rattle.run.specs.declared.Ran.{Ran}
+use Rattle.run.specs.declared.Ran.the-variants.{Library as OfLibrary, Refused}
+use Rattle.run.specs.declared.Why.{Why}
+use Rattle.run.specs.declared.Why.the-variants.{Stream}
+use Rattle.run.proofs.FlatFind.{ltb-yes, ltb-no}
+
+pub sane-again : (w v : List ℕ) (d : Desk) → length v ≡ length w → Sane w d → Sane v d
+sane-again w v d e s =
+    record {
+      ordered = (s .ordered .0, omega (arith, e, s .ordered .1));
+      room = e ∙ s .room;
+      entries = s .entries;
+      decks = s .decks;
+      cards = s .cards;
+      next = s .next;
+    }
+
+-- TAKEN UP, and settled
+pub begun-held : (old w dir names decks : List ℕ) (d : Desk) (v flags : List ℕ) → Loads old w dir names decks d → Resettled w dir d v flags
+    → Begins old (inArrays v dir names decks flags) d
+begun-held old w dir names decks d v flags load settle l ok = settle (yanked l 0) names decks (start l) (load l ok)
+
+-- THE LINES, and what follows them
+pub from-ended : (a : Arrays) (d : Desk) (bytes : List ℕ) (b : Arrays) (e : Desk) (space new : List ℕ) (r : Ran) → ObeysStream a d bytes b (EndedOn e)
+    → Finishes (b .words) (b .dir) (b .names) e space new r → RunsFrom a d bytes space new r
+from-ended a d bytes b e space new r obeys fin s h = go (steps s 1 (lines bytes)) (obeys s h)
+  where
+    go : (x : Steps) → EndedIn b (EndedOn e) x → Answers (afterLines (length space) x) space new r
+    go (ended t) held = fin (b .decks) (b .flags) t held
+    go (stopped z m) held = absurd held
+
+pub from-stopped : (a : Arrays) (d : Desk) (bytes : List ℕ) (b : Arrays) (y : Why) (n : ℕ) (space : List ℕ) → ObeysStream a d bytes b (EndedOff y n)
+    → RunsFrom a d bytes space space (Refused y n)
+from-stopped a d bytes b y n space obeys s h = go (steps s 1 (lines bytes)) (obeys s h)
+  where
+    go : (x : Steps) → EndedIn b (EndedOff y n) x → Answers (afterLines (length space) x) space space (Refused y n)
+    go (ended t) e = absurd e
+    go (stopped z m) e = record { answer = ap₂ (λ (v : Why) (i : ℕ). Refused v i) (e .0) (e .1); written = refl }
+
+pub lines-run : (old : List ℕ) (a : Arrays) (d : Desk) (bytes space new : List ℕ) (r : Ran) → Begins old a d → RunsFrom a d bytes space new r → RunsLines old bytes space new r
+lines-run old a d bytes space new r b f l ok = f (start l) (b l ok)
+
+-- 19
+pub stream-over : (old bytes space : List ℕ) → 262144 < length bytes → RunsStream old bytes space space (Refused Stream 0)
+unfolding update
+stream-over old bytes space lt l ok =
+    let u : update l bytes (length space) ≡ notUpdated Stream 0 =
+    ap (λ (b : Bool). if b then notUpdated Stream 0 else fitted (length space) (steps (start l) 1 (lines bytes))) (ltb-yes 262144 (length bytes) lt) in
+    record { answer = ap (λ x. ran (fromUpdated x)) (sym u); written = ap (λ x. runInto (fromUpdated x) space) (sym u) }
+
+pub stream-within : (old bytes space new : List ℕ) (r : Ran) → length bytes ≤ 262144 → RunsLines old bytes space new r → RunsStream old bytes space new r
+unfolding update
+stream-within old bytes space new r le h l ok =
+    let u : update l bytes (length space) ≡ fitted (length space) (steps (start l) 1 (lines bytes)) =
+    ap (λ (b : Bool). if b then notUpdated Stream 0 else fitted (length space) (steps (start l) 1 (lines bytes))) (ltb-no 262144 (length bytes) le) in
+    subst (λ x. Answers (fromUpdated x) space new r) (sym u) (h l ok)
+
+-- THE CHECK ahead of all
+module _ (old : List ℕ) where
+  sound-not : (f : Fault) (p : ℕ) → CheckedRefused f p ≡ CheckedSound → ⊥
+  sound-not f p e = let z : _≡_ {A = ℕ} 0 1 = cc in omega arith
+
+  pub accepted-is : checked (check old) ≡ CheckedSound → (l : Library) × (check old ≡ good l)
+  accepted-is e = go (check old) refl e
+    where
+      go : (x : Checking) → check old ≡ x → checked x ≡ CheckedSound → (l : Library) × (check old ≡ good l)
+      go (good l) q h = (l, q)
+      go (bad f p) q h = absurd (sound-not f p h)
+
+  not-sound : (f : Fault) (p : ℕ) → CheckedSound ≡ CheckedRefused f p → ⊥
+  not-sound f p e = let z : _≡_ {A = ℕ} 0 1 = cc in omega arith
+
+  same-fault : (f g : Fault) (p q : ℕ) → CheckedRefused f p ≡ CheckedRefused g q → f ≡ g
+  same-fault f g p q e = cc
+
+  same-place : (f g : Fault) (p q : ℕ) → CheckedRefused f p ≡ CheckedRefused g q → p ≡ q
+  same-place f g p q e = cc
+
+  module _ (bytes space : List ℕ) where
+    pub run-refused : (f : Fault) (p : ℕ) → checked (check old) ≡ CheckedRefused f p → Answers (running old bytes (length space)) space space (OfLibrary f p)
+    unfolding running
+    run-refused f p e = go (check old) e
+      where
+        go : (x : Checking) → checked x ≡ CheckedRefused f p → Answers (fromChecked x bytes (length space)) space space (OfLibrary f p)
+        go (good l) h = absurd (not-sound f p h)
+        go (bad g q) h = record { answer = ap₂ (λ (v : Fault) (i : ℕ). OfLibrary v i) (sym (same-fault g f q p h)) (sym (same-place g f q p h)); written = refl }
+
+    pub run-accepted : (new : List ℕ) (r : Ran) → checked (check old) ≡ CheckedSound → RunsStream old bytes space new r → Answers (running old bytes (length space)) space new r
+    unfolding running
+    run-accepted new r e h =
+        let g = accepted-is e in
+        subst (λ (x : Checking). Answers (fromChecked x bytes (length space)) space new r) (sym (g .1)) (h (g .0) (g .1))

@@ -1,0 +1,127 @@
+// A library that the check accepted is taken up: its tables and its cards are copied, the decks' numbers flagged, the cards counted.
+ghost use mathlib.Core.Path.{_≡_};
+ghost use mathlib.Core.Bool.{Bool, false};
+ghost use Prim.Native.Nat.{ℕ, _+_, _-_, _≤_, _<_};
+ghost use lib.ListN.{length, drop};
+ghost use lib.Seq.{paste};
+ghost use Rattle.run.specs.Corrected.{titled};
+ghost use Rattle.run.specs.Desk.{Sane};
+ghost use Rattle.run.specs.Loaded.{NoFlags, FlagsDecks, FindsTitle, Readable, Loads};
+use crate::card::FIELD;
+use crate::card::see;
+use crate::carry::ROOM;
+use crate::carry::copy_words;
+use crate::desk::Desk;
+use crate::desk::TextAt;
+use crate::gap::Gap;
+use crate::seek::Place;
+use crate::seek::find;
+use crate::starts::entry_of;
+
+// No number is flagged.
+fn clear(flags: &mut [u64])
+    ensures { λ _. ⌜ NoFlags (now (flags .exit)) ⌝ }
+{
+    let mut i: usize = 0;
+    while i < flags.len() {
+        flags[i] = 0;
+        i += 1;
+    }
+}
+
+// The numbers of the names after the first of k: YANK$$$ has none.
+fn flag_decks(dir: &[u64], n: usize, names: &[u64], k: usize, flags: &mut [u64])
+    requires { ⌜ (n ≤ length (now dir)) × ((k ≤ length (now names)) × (n < length (now flags))) ⌝ }
+    ensures { λ _. ⌜ FlagsDecks (now (dir .entry)) n (now (names .entry)) k (now (flags .exit)) ⌝ }
+{
+    clear(flags);
+    let mut i: usize = 1;
+    while i < k {
+        let e = entry_of(dir, n, names[i]);
+        flags[e] = 1;
+        i += 1;
+    }
+}
+
+// Whether a deck's card has this owner and number, whatever the owner.
+fn is_first(decks: &[u64], own: u64, seq: u64) -> bool
+    ensures { λ b. ⌜ b ≡ titled (now (decks .entry)) own seq ⌝ }
+{
+    if seq != 1 {
+        return false;
+    }
+    let n = own as usize;
+    if decks.len() <= n {
+        return false;
+    }
+    if decks[n] == 0 {
+        return false;
+    }
+    true
+}
+
+// The first deck card: YANK$$$ is ahead of it.
+fn first_title(w: &[u64], to: usize, decks: &[u64]) -> Place
+    requires { ⌜ (to ≤ length (now w)) × (length (now w) ≤ 65536) ⌝ }
+    ensures { λ r. ⌜ (r .at ≤ to) × (r .index ≤ 400000) ⌝ }
+    ensures { λ r. ⌜ FindsTitle (now (w .entry)) to (now (decks .entry)) r ⌝ }
+{
+    let mut at: usize = 0;
+    let mut i: usize = 0;
+    while at < to {
+        let c = see(w, at);
+        let heads = c.heads;
+        let count = c.count;
+        if is_first(decks, c.owner, c.seq) {
+            return Place { at: at, index: i };
+        }
+        at = at + heads + count;
+        i += 1;
+    }
+    Place { at: to, index: i }
+}
+
+// The words of an image with n entries and k decks: the directory, the deck list, the cards.
+fn load_words(old: &[u64], n: usize, k: usize, w: &mut [u64], dir: &mut [u64], names: &mut [u64])
+    requires { ⌜ (2 + n + k ≤ length (now old)) × ((length (now old) ≤ length (now w)) × ((n ≤ length (now dir)) × (k ≤ length (now names)))) ⌝ }
+    ensures { λ _. ⌜ now (w .exit) ≡ paste (now (w .entry)) 0 (drop (2 + n + k) (now (old .entry))) (length (now (old .entry)) - (2 + n + k)) ⌝ }
+    ensures { λ _. ⌜ now (dir .exit) ≡ paste (now (dir .entry)) 0 (drop 2 (now (old .entry))) n ⌝ }
+    ensures { λ _. ⌜ now (names .exit) ≡ paste (now (names .entry)) 0 (drop (2 + n) (now (old .entry))) k ⌝ }
+{
+    let first = 2 + n + k;
+    copy_words(dir, 0, old, 2, n);
+    copy_words(names, 0, old, 2 + n, k);
+    copy_words(w, 0, old, first, old.len() - first);
+}
+
+// The library in work at the start of a run: the gap is behind the cards, no unit has begun, and text goes nowhere.
+pub(crate) fn load(
+    old: &[u64],
+    w: &mut [u64],
+    dir: &mut [u64],
+    names: &mut [u64],
+    decks: &mut [u64],
+) -> Desk
+    requires { ⌜ Readable (now old) × ((length (now w) ≡ 65536) × ((length (now dir) ≡ 1024) × ((255 < length (now names)) × (1024 < length (now decks))))) ⌝ }
+    ensures { λ d. ⌜ Sane (now (w .exit)) d × (d .lead ≤ d .gap .lo) ⌝ }
+    ensures { λ d. ⌜ Loads (now (old .entry)) (now (w .exit)) (now (dir .exit)) (now (names .exit)) (now (decks .exit)) d ⌝ }
+{
+    let n = (old[1] / FIELD) as usize;
+    let k = (old[1] % FIELD) as usize;
+    let lo = old.len() - (2 + n + k);
+    load_words(old, n, k, w, dir, names);
+    flag_decks(dir, n, names, k, decks);
+    let t = first_title(w, lo, decks);
+    let c = find(w, 0, lo, 0, 0);
+    Desk {
+        gap: Gap { lo: lo, hi: ROOM },
+        entries: n,
+        decks: k - 1,
+        cards: c.index,
+        yanks: t.index,
+        lead: t.at,
+        set: false,
+        next: 0,
+        place: TextAt::Nowhere,
+    }
+}
