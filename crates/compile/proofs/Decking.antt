@@ -6,13 +6,13 @@ use mathlib.Core.Bool.{Bool}
 use mathlib.Core.List.{List, [], _∷_}
 use borrow.Author.Tests.{eq-eqb, ne-eqb}
 use lib.ListN.{length, getD, drop, length-drop}
+use Rattle.image.proofs.Rows.{row-cons}
 use Rattle.compile.specs.View.{DeckView}
-use Rattle.compile.specs.Places.{shownIn, rowView, tableView}
+use Rattle.compile.specs.TableView.{shownIn, rowView, tableView}
 use Rattle.compile.specs.declared.Stop.{Stop}
 use Rattle.compile.specs.declared.walk.Walked.{Walked}
 use Rattle.compile.specs.declared.walk.Walked.the-variants.{On, Halted}
 use Rattle.compile.specs.Steps.{State, state, thenOn, runAt, deckOf, decksOf}
-use Rattle.compile.proofs.Finding.{row-cons}
 
 -- a deck that is common, and one that is not
 module _ (w : Bool) (ds : List DeckView) (ws rows : List ℕ) (i l n : ℕ) (o : List ℕ) where

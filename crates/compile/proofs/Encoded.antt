@@ -1,42 +1,36 @@
 -- What stands in the words of a sound library is what its view shows. Assumes nothing.
---   a card       card-at
---   its cards    cards-shown, cards-end
+--   a card       shown-is
+--   its cards    cards-shown
 --   its decks    decks-at
 --   the image    image-table, view-plain, image-answers
 --   the check    compile-sound, compile-refused
 use Prim.Native.Nat.{ℕ, zero, suc, _+_, _-_, _*_, _/_, _%_, _^_, _≤_, _<_}
 use native.Mathlib.Omega.{arith}
-use native.Mathlib.Nat.{add-zero}
 use mathlib.Core.Path.{_≡_, refl, sym, ap, _∙_, subst}
 use mathlib.Core.Bool.{Bool, true, false, _&&_, _||_, not}
-use mathlib.Core.List.{List, [], _∷_, _++_, map, append-assoc}
-use mathlib.Core.Option.{some}
-use borrow.Author.Tests.{le-leb}
+use mathlib.Core.List.{List, [], _∷_, _++_, append-assoc}
 use lib.Dec.{T, eqb, leb→le}
-use lib.ListN.{length, getD, take, drop, length-append, length-drop, length-map, List·getD-append}
-use lib.Seq.{take-at, drop-at, drop-drop, getD-drop}
-use Rattle.words.specs.Base.{if_then_else_, all, placeFrom, isNil}
-use Rattle.words.specs.Display.{inChart}
-use Rattle.words.specs.Text.{trim, textWords, says}
+use lib.ListN.{length, getD, drop, length-append, length-drop, length-map, List·getD-append}
+use lib.Seq.{drop-at}
+use Rattle.words.specs.Base.{if_then_else_}
 use Rattle.words.specs.Names.{isNameWord}
-use Rattle.words.proofs.Tests.{T-true, same-eq}
-use Rattle.words.proofs.TextTrip.{says-written, written-is-text, written-fits}
 use Rattle.library.specs.Each.{Each}
-use Rattle.library.specs.Library.{Byte, Card, Deck, Library, deckLine, history, deckCard, nameAt, deckNames, purged, reserved}
+use Rattle.library.specs.Library.{Card, Deck, Library, history, deckCard, nameAt, deckNames, purged, reserved}
 use Rattle.library.specs.Yanks.{active, yanked}
-use Rattle.library.specs.Image.{bit, byteBits, cardWords, cardsWords, decksWords, counts, tables, encode, limitTests, withinLimits}
-use Rattle.library.specs.Check.{isLastWord, Fields, fieldsOf, cardsPlace, Checking, good, bad, check, checked}
-use Rattle.library.specs.Sound.{lineTests, soundLine, isNamed, SoundCard, BeginsNoDeck, SoundDeck, Sound}
-use Rattle.library.proofs.Each.{each-map, all-each, allOf-each}
+use Rattle.library.specs.Image.{cardWords, cardsWords, decksWords, counts, tables, encode, limitTests, withinLimits}
+use Rattle.library.specs.Check.{cardsPlace, Checking, good, bad, check, checked}
+use Rattle.library.specs.Sound.{isNamed, SoundCard, SoundDeck, Sound}
+use Rattle.library.proofs.Each.{all-each, allOf-each}
 use Rattle.library.proofs.EntryNames.{is-named}
-use Rattle.library.proofs.BytesBack.{Low, number-back, raw-bytes}
-use Rattle.library.proofs.FieldsBack.{Raw, count-back, head-end, fields-back}
 use Rattle.library.proofs.WordsFit.{entry-sound}
 use Rattle.library.proofs.CheckEncode.{check-encode}
 use Rattle.library.proofs.CheckSound.{check-sound}
-use Rattle.library.proofs.ReadBack.{LineSays, rawOf, headOf}
+use Rattle.image.specs.Places.{nextAt, seenAt, titleOf, isTitle, named, deckEnd, rowOf, rowsIn, tableOf}
+use Rattle.image.proofs.Rows.{titleAt, titled, end-here, end-past, rows-here, rows-end, rows-skip, tables-all}
+use Rattle.image.proofs.Written.{inside, next-is, after, some-words, owner-is, seq-is, active-is, line-is, title-is}
+use Rattle.image.proofs.Ending.{stands-first, cards-end, cards-after}
 use Rattle.compile.specs.View.{DeckView, shownCard, shown, viewDecks, view}
-use Rattle.compile.specs.Places.{textFrom, textAt, nextAt, seenAt, textOf, lineIn, shownOf, titleOf, titleIn, isTitle, named, consIf, shownIn, deckEnd, rowOf, rowsIn, Tables, tableView}
+use Rattle.compile.specs.TableView.{shownOf, consIf, shownIn, tableView}
 use Rattle.library.specs.declared.Fault.{Fault}
 use Rattle.library.specs.declared.Checked.{Checked}
 use Rattle.library.specs.declared.Checked.the-variants.{Sound as Accepts, Refused as Rejects}
@@ -44,180 +38,43 @@ use Rattle.compile.specs.Compile.{Compiling, ofWalk, compileView, fromCh
 use Rattle.compile.specs.Answer.{Named, Plain, Answers, Compiles, CompilesImage}
 use Rattle.compile.specs.declared.Compiled.{Compiled}
 use Rattle.compile.specs.declared.Compiled.the-variants.{Library as OfLibrary}
-use Rattle.compile.proofs.Standing.{shown-more, shown-past}
-use Rattle.compile.proofs.Rows.{titleAt, end-here, end-on, end-past, rows-here, rows-end, rows-skip}
+use Rattle.compile.proofs.Showing.{shown-more, shown-past}
 
--- WHERE THE TEXT STARTS, by the place of the first word with bit 59
-text-place : (n a k : ℕ) (xs : List ℕ) → placeFrom isLastWord (suc n) xs ≡ some k → textFrom a xs + n ≡ a + k
-text-place n a k [] e = absurd (let z : _≡_ {A = ℕ} 0 1 = cc in omega arith)
-text-place n a k (x ∷ xs) e = go (isLastWord x) (text-place (suc n) (suc a) k xs) e
-  where
-    go : (b : Bool) → (placeFrom isLastWord (suc (suc n)) xs ≡ some k → textFrom (suc a) xs + suc n ≡ suc a + k)
-        → (if b then some (suc n) else placeFrom isLastWord (suc (suc n)) xs) ≡ some k → (if b then suc a else textFrom (suc a) xs) + n ≡ a + k
-    go true on q = let j : suc n ≡ k = cc in omega arith
-    go false on q = omega (arith, on q)
-
-line-says : (l : List ℕ) → T (soundLine l) → LineSays l
-line-says l t =
-    let q = allOf-each (lineTests l) t in
-    record { charted = T-true (all inChart l) (q .0); short = leb→le (length l) 80 (q .1 .0); trimmed = same-eq (trim l) l (q .1 .1 .0) }
-
--- A CARD: its words stand at a place
+-- A CARD: its words stand at a place, and the names in the directory
 module _ (directory ws : List ℕ) (entries : length directory ≤ 1023)
     (names : (n : ℕ) → 0 < n → n ≤ length directory → getD ws (n + 1) 0 ≡ nameAt directory n) where
   module _ (yk : ℕ → Bool) (c : Card) (sound : SoundCard directory c) (at : ℕ) (rest : List ℕ) (stands : drop at ws ≡ cardWords yk c ++ rest) where
-    abbrev text : List ℕ
-    text = textWords (c .line)
-
-    abbrev first : Byte
-    first = record { number = c .owner; activating = true }
-
-    low : Each Low (history c)
-    low = each-map _ _ (λ b t. let q = is-named directory (b .number) t in (q .above, omega (arith, q .within))) (history c) (all-each (λ b. isNamed directory (b .number)) (history c) (sound .named))
-
-    raw : Raw (rawOf yk c)
-    raw = raw-bytes yk (history c) low
-
-    line : LineSays (c .line)
-    line = line-says (c .line) (sound .line)
-
-    seq-low : c .seq < 2 ^ 18
-    seq-low = omega (arith, sound .fits)
-
-    text-low : length text < 2 ^ 18
-    text-low = omega (arith, written-fits (c .line) (line .short))
-
-    abbrev b : ℕ
-    b = byteBits yk first
-
-    abbrev bs : List ℕ
-    bs = map (byteBits yk) (c .later)
-
-    words : drop at ws ≡ headOf yk c ++ (text ++ rest)
-    unfolding cardWords
-    words = stands ∙ append-assoc (headOf yk c) text rest
-
-    long : length ws - at ≡ length (headOf yk c) + (length text + length rest)
-    long = sym (length-drop at ws) ∙ ap length words ∙ length-append (headOf yk c) (text ++ rest) ∙ ap (λ (n : ℕ). length (headOf yk c) + n) (length-append text rest)
-
-    head-some : 0 < length (headOf yk c)
-    head-some = omega arith
-
-    pub inside : at < length ws
-    inside = omega (arith, long, head-some)
-
-    fields : fieldsOf (drop at ws) (length (headOf yk c)) ≡ record { head = headOf yk c; text = text; act = active yk c; seq = c .seq; raw = b ∷ bs }
-    fields = ap (λ (r : List ℕ). fieldsOf r (length (headOf yk c))) words ∙ fields-back (active yk c) (c .seq) b bs text text-low seq-low raw rest
-
-    word : getD (drop at ws) 0 0 ≡ getD ws at 0
-    word = getD-drop at ws 0 0 ∙ ap (λ (n : ℕ). getD ws n 0) (add-zero at)
-
-    text-is : textAt ws at ≡ at + length (headOf yk c)
-    unfolding textAt
-    text-is =
-        let p : placeFrom isLastWord 1 (drop at ws) ≡ some (length (headOf yk c)) =
-        ap (placeFrom isLastWord 1) words ∙ head-end (active yk c) (c .seq) b bs text text-low seq-low raw (text ++ rest) in
-        omega (arith, text-place 0 at (length (headOf yk c)) (drop at ws) p)
-
-    count-is : getD ws at 0 / 2 ^ 36 % 2 ^ 18 ≡ length text
-    count-is =
-        ap (λ (n : ℕ). n / 2 ^ 36 % 2 ^ 18) (sym word ∙ ap (λ (r : List ℕ). getD r 0 0) words)
-        ∙ count-back (active yk c) (c .seq) b bs text text-low seq-low raw
-
-    pub next-is : nextAt ws at ≡ at + length (cardWords yk c)
-    unfolding nextAt cardWords
-    next-is =
-        let e : textAt ws at + getD ws at 0 / 2 ^ 36 % 2 ^ 18 ≡ at + length (headOf yk c ++ text) =
-        omega (arith, text-is, count-is, length-append (headOf yk c) text) in
-        let f : textAt ws at + getD ws at 0 / 2 ^ 36 % 2 ^ 18 ≤ length ws = omega (arith, e, length-append (headOf yk c) text, long, inside) in
-        rw (le-leb (textAt ws at + getD ws at 0 / 2 ^ 36 % 2 ^ 18) (length ws) f) e
-
-    pub after : drop (nextAt ws at) ws ≡ rest
-    after =
-        ap (λ (n : ℕ). drop n ws) next-is ∙ sym (drop-drop (length (cardWords yk c)) at ws) ∙ ap (drop (length (cardWords yk c))) stands
-        ∙ drop-at (cardWords yk c) rest (length (cardWords yk c)) refl
-
-    pub active-is : seenAt ws at .active ≡ active yk c
-    active-is = ap (λ (n : ℕ). eqb (n / 2 ^ 58 % 2) 1) (sym word) ∙ ap (λ (f : Fields). f .act) fields
-
-    seq-is : getD ws at 0 / 2 ^ 18 % 2 ^ 18 ≡ c .seq
-    seq-is = ap (λ (n : ℕ). n / 2 ^ 18 % 2 ^ 18) (sym word) ∙ ap (λ (f : Fields). f .seq) fields
-
-    owner-is : getD ws at 0 % 2 ^ 16 ≡ c .owner
-    owner-is =
-        ap (λ (n : ℕ). n % 2 ^ 16) (sym word ∙ ap (λ (r : List ℕ). getD r 0 0) words) ∙ low-bits (isNil bs) (active yk c) ∙ number-back yk first (low .0)
-      where
-        low-bits : (x y : Bool) → (bit x 59 + bit y 58 + length text * 2 ^ 36 + c .seq * 2 ^ 18 + b) % 2 ^ 16 ≡ b % 2 ^ 16
-        low-bits true true = omega arith
-        low-bits true false = omega arith
-        low-bits false true = omega arith
-        low-bits false false = omega arith
-
-    card-length : length (cardWords yk c) ≡ length (headOf yk c) + length text
-    unfolding cardWords
-    card-length = length-append (headOf yk c) text
-
-    pub some-words : 0 < length (cardWords yk c)
-    some-words = omega (arith, card-length, head-some)
-
-    line-is : lineIn ws (textAt ws at) (nextAt ws at) ≡ c .line
-    unfolding lineIn
-    line-is =
-        let n : nextAt ws at - textAt ws at ≡ length text = omega (arith, next-is, text-is, card-length) in
-        let d : drop (textAt ws at) ws ≡ text ++ rest =
-        ap (λ (k : ℕ). drop k ws) text-is ∙ sym (drop-drop (length (headOf yk c)) at ws) ∙ ap (drop (length (headOf yk c))) words
-        ∙ drop-at (headOf yk c) (text ++ rest) (length (headOf yk c)) refl in
-        let t : take (nextAt ws at - textAt ws at) (drop (textAt ws at) ws) ≡ text = (λ i. take (n i) (d i)) ∙ take-at text rest (length text) refl in
-        ap textOf t ∙ ap (λ (x : Bool). if x then says text else []) (written-is-text (c .line) (line .charted) (line .short)) ∙ says-written (c .line) (line .charted) ∙ line .trimmed
-
     pub shown-is : shownOf ws (seenAt ws at) ≡ shownCard directory c
     unfolding shownOf
     shown-is =
         let q = is-named directory (c .owner) (all-each (λ x. isNamed directory (x .number)) (history c) (sound .named) .0) in
-        let name : getD ws (getD ws at 0 % 2 ^ 16 + 1) 0 ≡ nameAt directory (c .owner) = ap (λ (n : ℕ). getD ws (n + 1) 0) owner-is ∙ names (c .owner) (q .above) (q .within) in
-        λ i. record { line = line-is i; owner = owner-is i; name = name i; seq = seq-is i }
-
-    pub title-is : titleAt ws at ≡ titleOf (deckLine (c .line))
-    unfolding titleIn
-    title-is = ap (λ (l : List ℕ). titleOf (deckLine l)) line-is
+        let owner : getD ws at 0 % 2 ^ 16 ≡ c .owner = owner-is directory ws entries yk c sound at rest stands in
+        let name : getD ws (getD ws at 0 % 2 ^ 16 + 1) 0 ≡ nameAt directory (c .owner) = ap (λ (n : ℕ). getD ws (n + 1) 0) owner ∙ names (c .owner) (q .above) (q .within) in
+        λ i. record {
+          line = line-is directory ws entries yk c sound at rest stands i;
+          owner = owner i;
+          name = name i;
+          seq = seq-is directory ws entries yk c sound at rest stands i;
+        }
 
   -- CARDS up to where they end
   module _ (yk : ℕ → Bool) (rest : List ℕ) where
-    stands-first : (c : Card) (cs : List Card) (at : ℕ) → drop at ws ≡ cardsWords yk (c ∷ cs) ++ rest → drop at ws ≡ cardWords yk c ++ (cardsWords yk cs ++ rest)
-    stands-first c cs at e = e ∙ append-assoc (cardWords yk c) (cardsWords yk cs) rest
-
     pub cards-shown : (cs : List Card) → Each (SoundCard directory) cs → (at end : ℕ) → drop at ws ≡ cardsWords yk cs ++ rest → end ≡ at + length (cardsWords yk cs)
         → shownIn ws at end ≡ shown yk directory cs
     cards-shown [] h at end e q = shown-past ws at end (omega arith)
     cards-shown (c ∷ cs) h at end e q =
-        let f = stands-first c cs at e in
+        let f = stands-first ws yk rest c cs at e in
         let r : List ℕ = cardsWords yk cs ++ rest in
-        let i : at < length ws = inside yk c (h .0) at r f in
-        let n : nextAt ws at ≡ at + length (cardWords yk c) = next-is yk c (h .0) at r f in
+        let i : at < length ws = inside directory ws entries yk c (h .0) at r f in
+        let n : nextAt ws at ≡ at + length (cardWords yk c) = next-is directory ws entries yk c (h .0) at r f in
         let k : length (cardWords yk c ++ cardsWords yk cs) ≡ length (cardWords yk c) + length (cardsWords yk cs) = length-append (cardWords yk c) (cardsWords yk cs) in
-        let on : shownIn ws (nextAt ws at) end ≡ shown yk directory cs = cards-shown cs (h .1) (nextAt ws at) end (after yk c (h .0) at r f) (omega arith) in
-        shown-more ws at end i (omega (arith, some-words yk c (h .0) at r f))
-        ∙ (λ j. consIf (active-is yk c (h .0) at r f j) (shown-is yk c (h .0) at r f j) (on j)) ∙ go (active yk c)
+        let on : shownIn ws (nextAt ws at) end ≡ shown yk directory cs = cards-shown cs (h .1) (nextAt ws at) end (after directory ws entries yk c (h .0) at r f) (omega arith) in
+        shown-more ws at end i (omega (arith, some-words directory ws entries yk c (h .0) at r f))
+        ∙ (λ j. consIf (active-is directory ws entries yk c (h .0) at r f j) (shown-is yk c (h .0) at r f j) (on j)) ∙ go (active yk c)
       where
         go : (b : Bool) → consIf b (shownCard directory c) (shown yk directory cs) ≡ (if b then (shownCard directory c ∷ shown yk directory cs) else shown yk directory cs)
         go true = refl
         go false = refl
-
-    pub cards-end : (cs : List Card) → Each (SoundCard directory) cs → Each BeginsNoDeck cs → (at end : ℕ) → drop at ws ≡ cardsWords yk cs ++ rest
-        → end ≡ at + length (cardsWords yk cs) → deckEnd ws end ≡ end → deckEnd ws at ≡ end
-    cards-end [] h o at end e q d = let z : at ≡ end = omega arith in ap (deckEnd ws) z ∙ d
-    cards-end (c ∷ cs) h o at end e q d =
-        let f = stands-first c cs at e in
-        let r : List ℕ = cardsWords yk cs ++ rest in
-        let n : nextAt ws at ≡ at + length (cardWords yk c) = next-is yk c (h .0) at r f in
-        let k : length (cardWords yk c ++ cardsWords yk cs) ≡ length (cardWords yk c) + length (cardsWords yk cs) = length-append (cardWords yk c) (cardsWords yk cs) in
-        let t : isTitle (titleAt ws at) ≡ false = ap isTitle (title-is yk c (h .0) at r f ∙ ap titleOf (o .0)) in
-        end-on ws at (inside yk c (h .0) at r f) t ∙ cards-end cs (h .1) (o .1) (nextAt ws at) end (after yk c (h .0) at r f) (omega arith) d
-
-    pub cards-after : (cs : List Card) (at end : ℕ) → drop at ws ≡ cardsWords yk cs ++ rest → end ≡ at + length (cardsWords yk cs) → drop end ws ≡ rest
-    cards-after cs at end e q =
-        ap (λ (n : ℕ). drop n ws) q ∙ sym (drop-drop (length (cardsWords yk cs)) at ws) ∙ ap (drop (length (cardsWords yk cs))) e
-        ∙ drop-at (cardsWords yk cs) rest (length (cardsWords yk cs)) refl
 
   -- DECKS up to the image's end
   record Decks (yk : ℕ → ℕ → Bool) (ds : List Deck) (at : ℕ) : Type 0 where
@@ -230,10 +87,6 @@ module _ (directory ws : List ℕ) (entries : length directory ≤ 1023)
   unfolding tableView
   title-row false w f t rows = refl
   title-row true w f t rows = refl
-
-  titled : (common : Bool) (w : ℕ) → isTitle (named common w) ≡ true
-  titled false w = refl
-  titled true w = refl
 
   decks-at : (yk : ℕ → ℕ → Bool) (ds : List Deck) → Each (SoundDeck directory) ds → (at : ℕ) → at ≤ length ws → drop at ws ≡ decksWords yk ds → Decks yk ds at
   unfolding tableView
@@ -252,18 +105,18 @@ module _ (directory ws : List ℕ) (entries : length directory ≤ 1023)
       let s : SoundDeck directory d = h .0 in
       let f : drop at ws ≡ cardWords y c ++ (cardsWords y (d .cards) ++ more) = e ∙ append-assoc (cardWords y c) (cardsWords y (d .cards)) more in
       let r : List ℕ = cardsWords y (d .cards) ++ more in
-      let i : at < length ws = inside y c (s .first) at r f in
+      let i : at < length ws = inside directory ws entries y c (s .first) at r f in
       let next : ℕ = nextAt ws at in
-      let g : drop next ws ≡ r = after y c (s .first) at r f in
+      let g : drop next ws ≡ r = after directory ws entries y c (s .first) at r f in
       let end : ℕ = next + length (cardsWords y (d .cards)) in
-      let past : drop end ws ≡ more = cards-after y more (d .cards) next end g refl in
-      let n : next ≡ at + length (cardWords y c) = next-is y c (s .first) at r f in
+      let past : drop end ws ≡ more = cards-after ws y more (d .cards) next end g refl in
+      let n : next ≡ at + length (cardWords y c) = next-is directory ws entries y c (s .first) at r f in
       let len : length ws - at ≡ length (cardWords y c) + (length (cardsWords y (d .cards)) + length more) =
       sym (length-drop at ws) ∙ ap length f ∙ length-append (cardWords y c) r ∙ ap (λ (k : ℕ). length (cardWords y c) + k) (length-append (cardsWords y (d .cards)) more) in
       let on : Decks yk ds end = decks-at yk ds (h .1) end (omega arith) past in
-      let t : titleAt ws at ≡ named (d .common) (nameAt directory (d .number)) = title-is y c (s .first) at r f ∙ ap titleOf (s .title) in
+      let t : titleAt ws at ≡ named (d .common) (nameAt directory (d .number)) = title-is directory ws entries y c (s .first) at r f ∙ ap titleOf (s .title) in
       let is : isTitle (titleAt ws at) ≡ true = ap isTitle t ∙ titled (d .common) (nameAt directory (d .number)) in
-      let stop : deckEnd ws next ≡ end = cards-end y more (d .cards) (s .cards) (s .others) next end g refl (on .begins) in
+      let stop : deckEnd ws next ≡ end = cards-end ws y more directory entries (d .cards) (s .cards) (s .others) next end g refl (on .begins) in
       let rest : rowsIn ws next ≡ rowsIn ws end = rows-skip ws next ∙ ap (rowsIn ws) stop in
       let row : rowsIn ws at ≡ rowOf (named (d .common) (nameAt directory (d .number))) next end ++ rowsIn ws end =
       rows-here ws at i is ∙ (λ j. rowOf (t j) next (stop j) ++ rest j) in
@@ -336,10 +189,10 @@ module _ (l : Library) (s : Sound l) where
       let ws : List ℕ = encode l in
       let at : ℕ = length (tables l) in
       let end : ℕ = at + length (cardsWords (yk 0) (l .yanks)) in
-      let past : drop end ws ≡ decksWords yk (l .decks) = cards-after (l .directory) ws (few .0) names-at (yk 0) (decksWords yk (l .decks)) (l .yanks) at end stands refl in
+      let past : drop end ws ≡ decksWords yk (l .decks) = cards-after ws (yk 0) (decksWords yk (l .decks)) (l .yanks) at end stands refl in
       let n : length body ≡ length (cardsWords (yk 0) (l .yanks)) + length (decksWords yk (l .decks)) = length-append (cardsWords (yk 0) (l .yanks)) (decksWords yk (l .decks)) in
       let ds = decks-at (l .directory) ws (few .0) names-at yk (l .decks) (s .decks) end (omega (arith, whole)) past in
-      let stop : deckEnd ws at ≡ end = cards-end (l .directory) ws (few .0) names-at (yk 0) (decksWords yk (l .decks)) (l .yanks) (s .yanks) (s .others) at end stands refl (ds .begins) in
+      let stop : deckEnd ws at ≡ end = cards-end ws (yk 0) (decksWords yk (l .decks)) (l .directory) (few .0) (l .yanks) (s .yanks) (s .others) at end stands refl (ds .begins) in
       let rows : rowsIn ws (cardsPlace ws) ≡ rowsIn ws end = ap (rowsIn ws) place-is ∙ rows-skip ws at ∙ ap (rowsIn ws) stop in
       record {
         place = omega (arith, place-is, whole);
@@ -385,10 +238,10 @@ module _ (ws : List ℕ) (l : Library) (e : check ws ≡ good l) where
   view-plain = view-named l (check-sound ws l e)
 
   -- what a table of it answers, it answers
-  pub image-answers : (table : List ℕ) (r : Compiled) (before after : List ℕ) → Tables ws table → Compiles (tableView ws table) r before after → Answers (ofWalk (compileView (length before) (view l))) r before after
+  pub image-answers : (table : List ℕ) (r : Compiled) (before after : List ℕ) → table ≡ tableOf ws → Compiles (tableView ws table) r before after → Answers (ofWalk (compileView (length before) (view l))) r before after
   image-answers table r before after t c =
       let i = image-table in
-      let v : tableView ws table ≡ view l = ap (tableView ws) (t (i .place) (i .count)) ∙ i .is in
+      let v : tableView ws table ≡ view l = ap (tableView ws) (t ∙ tables-all ws (i .place) (i .count)) ∙ i .is in
       subst (λ (ds : List DeckView). Compiles ds r before after) v c view-plain
 
 -- BOTH ANSWERS OF THE CHECK

@@ -1,30 +1,15 @@
 -- A name looked for in the rows of a table, one row after another. Assumes nothing.
---   row-cons                                  four words more
 --   find-reserved, row-here, row-on, row-end  the row of a name
-use Prim.Native.Nat.{ℕ, suc, _+_, _≤_, _<_}
+use Prim.Native.Nat.{ℕ, _+_, _≤_, _<_}
 use native.Mathlib.Omega.{arith}
-use mathlib.Core.Path.{_≡_, refl, sym, ap, _∙_}
+use mathlib.Core.Path.{_≡_, refl, sym}
 use mathlib.Core.List.{List, [], _∷_}
 use borrow.Author.Tests.{eq-eqb, ne-eqb}
 use lib.ListN.{length, getD, drop, length-drop}
-use lib.Seq.{drop-cons}
 use Rattle.compile.specs.declared.calls.Place.the-variants.{Missing, Normal}
 use Rattle.library.specs.Library.{reserved}
+use Rattle.image.proofs.Rows.{row-cons}
 use Rattle.compile.specs.Steps.{rowPlace, rowIn, findRow}
-
--- the row at a place
-pub row-cons : (t : List ℕ) (i : ℕ) → i + 3 < length t → drop i t ≡ getD t i 0 ∷ getD t (i + 1) 0 ∷ getD t (i + 2) 0 ∷ getD t (i + 3) 0 ∷ drop (i + 4) t
-row-cons t i h =
-    let a : drop i t ≡ getD t i 0 ∷ drop (suc i) t = drop-cons t i 0 (omega arith) in
-    let b : drop (suc i) t ≡ getD t (suc i) 0 ∷ drop (suc (suc i)) t = drop-cons t (suc i) 0 (omega arith) in
-    let d : drop (suc (suc i)) t ≡ getD t (suc (suc i)) 0 ∷ drop (suc (suc (suc i))) t = drop-cons t (suc (suc i)) 0 (omega arith) in
-    let e : drop (suc (suc (suc i))) t ≡ getD t (suc (suc (suc i))) 0 ∷ drop (suc (suc (suc (suc i)))) t = drop-cons t (suc (suc (suc i))) 0 (omega arith) in
-    let p : i + 1 ≡ suc i = omega arith in
-    let q : i + 2 ≡ suc (suc i) = omega arith in
-    let r : i + 3 ≡ suc (suc (suc i)) = omega arith in
-    let s : i + 4 ≡ suc (suc (suc (suc i))) = omega arith in
-    rw (p, q, r, s)
-    (a ∙ ap {B = List ℕ} (λ l. getD t i 0 ∷ l) (b ∙ ap {B = List ℕ} (λ l. getD t (suc i) 0 ∷ l) (d ∙ ap {B = List ℕ} (λ l. getD t (suc (suc i)) 0 ∷ l) e)))
 
 pub find-reserved : (w : ℕ) (t : List ℕ) → w ≡ reserved → Normal ≡ findRow w t
 unfolding findRow

@@ -1,10 +1,8 @@
 pub mod ViewBack
 pub mod AlikeView
-pub mod Standing
+pub mod Showing
 pub mod Printing
-pub mod Rows
 pub mod Finding
-pub mod Writing
 pub mod Putting
 pub mod Stepping
 pub mod Following

@@ -16,12 +16,13 @@ use Rattle.lines.specs.Directive.{callOf}
 use Rattle.lines.specs.declared.Call.{Call}
 use Rattle.lines.specs.declared.Call.the-variants.{Not, Of, Malformed}
 use Rattle.library.specs.Library.{reserved}
+use Rattle.library.specs.declared.Seen.{Seen}
+use Rattle.image.specs.Places.{seenAt, lineIn}
 use Rattle.compile.specs.View.{Shown, DeckView}
 use Rattle.compile.specs.Walk.{Found, missing, notCommon, common, lookIn, lookUp}
-use Rattle.compile.specs.Places.{seenAt, lineIn, shown, shownOf, consIf, shownIn, tableView}
+use Rattle.compile.specs.TableView.{shown, shownOf, consIf, shownIn, tableView}
 use Rattle.compile.specs.declared.Stop.{Stop}
 use Rattle.compile.specs.declared.Stop.the-variants.{Deep, Many}
-use Rattle.compile.specs.declared.cards.Seen.{Seen}
 use Rattle.compile.specs.declared.walk.Walked.{Walked}
 use Rattle.compile.specs.declared.walk.Walked.the-variants.{On, Halted}
 use Rattle.compile.specs.declared.calls.Place.{Place}
@@ -29,7 +30,7 @@ use Rattle.compile.specs.declared.calls.Place.the-variants.{Missing, Nor
 use Rattle.compile.specs.declared.calls.Asked.{Asked}
 use Rattle.compile.specs.declared.calls.Asked.the-variants.{Text, Stopped, Opened}
 use Rattle.compile.specs.Steps.{State, state, haltedAt, putOf, rowIn, findRow, openAt, askedBy, askedOf, thenOn, openOf, stepOf, runOf, calleeAt, runAt, visitOf}
-use Rattle.compile.proofs.Standing.{shown-more, shown-end, shown-past}
+use Rattle.compile.proofs.Showing.{shown-more, shown-end, shown-past}
 
 -- A NAME'S DECK
 abbrev foundAt : List ℕ → Place → Found

@@ -2,6 +2,6 @@ pub mod View
 pub mod Walk
 pub mod Compile
 pub mod Lines
-pub mod Places
+pub mod TableView
 pub mod Steps
 pub mod Answer

@@ -3,11 +3,11 @@ ghost use mathlib.Core.Path.{_≡_};
 ghost use Prim.Native.Nat.{_<_};
 ghost use Rattle.compile.specs.Steps.{findRow, openAt, askedOf};
 use crate::Stop;
-use crate::decks::COMMON;
-use crate::decks::FROM;
-use crate::decks::KIND;
-use crate::decks::ROW;
-use crate::decks::TO;
+use image::COMMON;
+use image::FROM;
+use image::KIND;
+use image::ROW;
+use image::TO;
 use lines::Call;
 
 // YANK$$$ as a name's word

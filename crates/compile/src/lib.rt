@@ -1,20 +1,18 @@
 // The compile file: the walk over decks and calls, and the 91-byte line.
 ghost use mathlib.Core.Path.{_≡_};
 ghost use lib.ListN.{length};
-ghost use Rattle.compile.specs.Places.{tableView};
+ghost use Rattle.compile.specs.TableView.{tableView};
 ghost use Rattle.compile.specs.Compile.{compiling, compiled, compileInto, stopNumber, compiledNumber, compiledFirst, compiledSecond};
 ghost use Rattle.compile.specs.Answer.{Compiles, CompilesImage};
 
 mod calls;
-mod cards;
-mod decks;
 mod print;
 mod walk;
 
-use crate::decks::TABLE;
-use crate::decks::put_table;
 use crate::walk::Walked;
 use crate::walk::walk_decks;
+use image::TABLE;
+use image::put_table;
 use library::Checked;
 use library::Fault;
 

@@ -1,25 +1,25 @@
 // The walk over decks and calls (01, "The compile file"; rows 40 to 44).
 ghost use mathlib.Core.Path.{_≡_};
-ghost use Prim.Native.Nat.{_+_, _≤_, _<_};
+ghost use Prim.Native.Nat.{_+_, _<_};
 ghost use lib.ListN.{length};
 ghost use Rattle.compile.specs.View.{Shown};
-ghost use Rattle.compile.specs.Places.{shown, shownOf, shownIn, rowView, tableView};
+ghost use Rattle.compile.specs.TableView.{shown, shownOf, shownIn, rowView, tableView};
 ghost use Rattle.compile.specs.Steps.{state, putOf, visitOf, runAt, deckOf, decksOf};
 use crate::Stop;
 use crate::calls::Asked;
 use crate::calls::asks;
-use crate::cards::COLUMNS;
-use crate::cards::Seen;
-use crate::cards::line_of;
-use crate::cards::see;
-use crate::cards::word_at;
-use crate::decks::COMMON;
-use crate::decks::FROM;
-use crate::decks::KIND;
-use crate::decks::ROW;
-use crate::decks::TO;
 use crate::print::LINE;
 use crate::print::put_line;
+use image::COLUMNS;
+use image::COMMON;
+use image::FROM;
+use image::KIND;
+use image::ROW;
+use image::TO;
+use image::line_of;
+use image::see;
+use image::word_at;
+use library::Seen;
 
 // "call nested deeper than 8 (in a normal deck it is 1)"
 const DEPTH: usize = 8;
@@ -65,7 +65,7 @@ fn step(
     lines: usize,
     calls: usize,
 ) -> Walked
-    requires { ⌜ (c .text ≤ c .next) × ((c .next ≤ length (now image)) × ((c .seq < 262144) × (c .owner < 65536))) ⌝ }
+    requires { ⌜ (c .seq < 262144) × (c .owner < 65536) ⌝ }
     ensures { λ r. ⌜ state r (now (out .exit)) ≡ visitOf writes (tableView (now (image .entry)) (now (table .entry))) depth (c .active) (shownOf (now (image .entry)) c) lines calls (now (out .entry)) ⌝ }
 {
     if !c.active {

@@ -1,7 +1,6 @@
 pub mod Standing
 pub mod Rows
 pub mod Writing
-pub mod Viewing
 pub mod Marking
 pub mod Chaining
 pub mod Written

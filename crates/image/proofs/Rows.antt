@@ -5,16 +5,17 @@
 --   rows-over, rows-more, next-title a table made row by row
 --   Put, put-start, put-more, put-full, put-all   the table
 --   table-taken, tables-all          of all decks
---   title-line                       a deck card's title
+--   title-line, titled               a deck card's title
+--   row-cons                         the row at a place of a table
 use Prim.Native.Nat.{ℕ, zero, suc, _+_, _-_, _%_, _≤_, _<_}
 use native.Mathlib.Omega.{arith}
 use mathlib.Core.Path.{_≡_, refl, sym, ap, _∙_}
 use mathlib.Core.Bool.{Bool, true, false}
-use mathlib.Core.List.{List, [], _++_, append-assoc, append-nil}
+use mathlib.Core.List.{List, [], _∷_, _++_, append-assoc, append-nil}
 use borrow.Author.Tests.{ltb-true, ltb-false}
 use lib.Dec.{ltb}
-use lib.ListN.{length, take, drop, length-append, take-append-drop}
-use lib.Seq.{length-take-le, take-all, take-at, drop-drop}
+use lib.ListN.{length, getD, take, drop, length-append, take-append-drop}
+use lib.Seq.{length-take-le, take-all, take-at, drop-cons, drop-drop}
 use Rattle.library.specs.declared.Seen.{Seen}
 use Rattle.image.specs.declared.decks.Title.{Title}
 use Rattle.image.specs.declared.decks.Title.the-variants.{Not, Deck, Common}
@@ -23,7 +24,7 @@ use Rattle.library.specs.Check.{cardsPlace}
 use Rattle.library.specs.Rows.{deckLineOf}
 use Rattle.library.specs.declared.DeckLine.{DeckLine as DeckAnswer}
 use Rattle.library.specs.declared.DeckLine.the-variants.{NotDeck, BadDeck, Deck as DeckOf, Common as CommonOf}
-use Rattle.image.specs.Places.{nextAt, seenAt, titleOf, titleIn, isTitle, deckEnd, rowOf, rowsIn, tableOf, tableInto, Tables}
+use Rattle.image.specs.Places.{nextAt, seenAt, named, titleOf, titleIn, isTitle, deckEnd, rowOf, rowsIn, tableOf, tableInto, Tables}
 use Rattle.image.proofs.Standing.{next-inside, places-more, places-end}
 
 abbrev pub titleAt : List ℕ → ℕ → Title
@@ -211,3 +212,22 @@ title-from (deckOf true w) = refl
 
 pub title-line : (d : DeckLine) (a : DeckAnswer) (r : DeckAnswer) → r ≡ deckLineOf d → r ≡ a → titleFrom a ≡ titleOf d
 title-line d a r e q = ap titleFrom (sym q ∙ e) ∙ title-from d
+
+-- a deck card has one
+pub titled : (common : Bool) (w : ℕ) → isTitle (named common w) ≡ true
+titled false w = refl
+titled true w = refl
+
+-- THE ROWS OF A TABLE, one after another
+pub row-cons : (t : List ℕ) (i : ℕ) → i + 3 < length t → drop i t ≡ getD t i 0 ∷ getD t (i + 1) 0 ∷ getD t (i + 2) 0 ∷ getD t (i + 3) 0 ∷ drop (i + 4) t
+row-cons t i h =
+    let a : drop i t ≡ getD t i 0 ∷ drop (suc i) t = drop-cons t i 0 (omega arith) in
+    let b : drop (suc i) t ≡ getD t (suc i) 0 ∷ drop (suc (suc i)) t = drop-cons t (suc i) 0 (omega arith) in
+    let d : drop (suc (suc i)) t ≡ getD t (suc (suc i)) 0 ∷ drop (suc (suc (suc i))) t = drop-cons t (suc (suc i)) 0 (omega arith) in
+    let e : drop (suc (suc (suc i))) t ≡ getD t (suc (suc (suc i))) 0 ∷ drop (suc (suc (suc (suc i)))) t = drop-cons t (suc (suc (suc i))) 0 (omega arith) in
+    let p : i + 1 ≡ suc i = omega arith in
+    let q : i + 2 ≡ suc (suc i) = omega arith in
+    let r : i + 3 ≡ suc (suc (suc i)) = omega arith in
+    let s : i + 4 ≡ suc (suc (suc (suc i))) = omega arith in
+    rw (p, q, r, s)
+    (a ∙ ap {B = List ℕ} (λ l. getD t i 0 ∷ l) (b ∙ ap {B = List ℕ} (λ l. getD t (suc i) 0 ∷ l) (d ∙ ap {B = List ℕ} (λ l. getD t (suc (suc i)) 0 ∷ l) e)))

@@ -2,7 +2,6 @@
 --   text-at, text-beyond, text-here, text-on   where a card's text starts
 --   line-unread, line-short, line-read, line-no-text, line-taken   a line in its columns
 --   places-more, places-end           the cards from a place on
---   shown-more, shown-past, shown-end the active ones up to a place
 use Prim.Native.Nat.{ℕ, zero, suc, _+_, _-_, _/_, _%_, _^_, _≤_, _<_}
 use native.Mathlib.Omega.{arith}
 use native.Mathlib.Numerals.{add-one}
@@ -18,7 +17,7 @@ use Rattle.words.specs.Text.{says, isText, textWords, wordsOf, expanding, expan
 use Rattle.words.specs.declared.Expanded.the-variants.{Columns, NoText}
 use Rattle.words.proofs.Tests.{true-T}
 use Rattle.library.specs.Check.{isLastWord}
-use Rattle.image.specs.Places.{textFrom, textAt, nextAt, seenAt, textOf, lineIn, lineInto, shownOf, placesFrom, placesIn, consIf, shownUpTo, shownIn}
+use Rattle.image.specs.Places.{textFrom, textAt, nextAt, textOf, lineIn, lineInto, placesFrom, placesIn}
 
 -- WHERE A TEXT STARTS
 module _ (ws : List ℕ) (i : ℕ) where
@@ -179,22 +178,3 @@ module _ (ws : List ℕ) (at : ℕ) where
   pub places-end : length ws ≤ at → placesIn ws at ≡ []
   unfolding placesIn
   places-end h = let e : length ws - at ≡ 0 = omega arith in rw e
-
--- THE ACTIVE ONES
-module _ (ws : List ℕ) (at end : ℕ) where
-  pub shown-more : at < length ws → at < end
-      → shownIn ws at end ≡ consIf (seenAt ws at .active) (shownOf ws (seenAt ws at)) (shownIn ws (nextAt ws at) end)
-  unfolding shownIn
-  shown-more h l = rw (places-more ws at h, lt-ltb at end l)
-
-  pub shown-end : length ws ≤ at → shownIn ws at end ≡ []
-  unfolding shownIn
-  shown-end h = rw (places-end ws at h)
-
-  pub shown-past : end ≤ at → shownIn ws at end ≡ []
-  unfolding shownIn
-  shown-past l = go (ltb at (length ws)) refl
-    where
-      go : (b : Bool) → ltb at (length ws) ≡ b → shownUpTo ws end (placesIn ws at) ≡ []
-      go true e = rw (places-more ws at (ltb-true at (length ws) e), le-ltb at end l)
-      go false e = rw (places-end ws at (ltb-false at (length ws) e))

@@ -1,7 +1,6 @@
 -- What stands at a place where the words of a sound card stand. Assumes nothing.
 --   inside, next-is, after, some-words                     its words
 --   owner-is, seq-is, active-is, line-is, title-is         what is seen of it
---   shown-is                                               what is shown of it
 --   force-is                                               its activity under any flags
 use Prim.Native.Nat.{ℕ, suc, _+_, _-_, _*_, _/_, _%_, _^_, _≤_, _<_}
 use native.Mathlib.Omega.{arith}
@@ -20,7 +19,7 @@ use Rattle.words.specs.Text.{trim, textWords, says}
 use Rattle.words.proofs.Tests.{T-true, same-eq}
 use Rattle.words.proofs.TextTrip.{says-written, written-is-text, written-fits}
 use Rattle.library.specs.Each.{Each}
-use Rattle.library.specs.Library.{Byte, Card, deckLine, history, nameAt}
+use Rattle.library.specs.Library.{Byte, Card, deckLine, history}
 use Rattle.library.specs.Yanks.{lastSays, active}
 use Rattle.library.specs.Image.{bit, byteBits, cardWords}
 use Rattle.library.specs.Check.{isLastWord, rawBytes, used, Fields, fieldsOf}
@@ -32,7 +31,7 @@ use Rattle.library.proofs.BytesBack.{Low, number-back, flag-back, raw-bytes}
 use Rattle.library.proofs.FieldsBack.{Raw, count-back, head-end, fields-back}
 use Rattle.library.proofs.ReadBack.{LineSays, rawOf, headOf}
 use Rattle.library.proofs.Telling.{say-used}
-use Rattle.image.specs.Places.{textFrom, textAt, nextAt, seenAt, textOf, lineIn, titleOf, titleIn, shownOf}
+use Rattle.image.specs.Places.{textFrom, textAt, nextAt, seenAt, textOf, lineIn, titleOf, titleIn}
 use Rattle.image.specs.Flags.{inForce}
 use Rattle.image.proofs.Standing.{text-at, next-inside}
 use Rattle.image.proofs.Rows.{titleAt}
@@ -170,13 +169,6 @@ module _ (directory ws : List ℕ) (entries : length directory ≤ 1023) where
         let t : take (nextAt ws at - textAt ws at) (drop (textAt ws at) ws) ≡ text = (λ i. take (n i) (d i)) ∙ take-at text rest (length text) refl in
         ap (λ (x : Bool). if x then textOf (take (nextAt ws at - textAt ws at) (drop (textAt ws at) ws)) else []) (le-leb (nextAt ws at) (length ws) (next-inside ws at inside .1))
         ∙ ap textOf t ∙ ap (λ (x : Bool). if x then says text else []) (written-is-text (c .line) (line .charted) (line .short)) ∙ says-written (c .line) (line .charted) ∙ line .trimmed
-
-    pub shown-is : getD ws (c .owner + 1) 0 ≡ nameAt directory (c .owner)
-        → shownOf ws (seenAt ws at) ≡ record { line = c .line; owner = c .owner; name = nameAt directory (c .owner); seq = c .seq }
-    unfolding shownOf
-    shown-is e =
-        let name : getD ws (getD ws at 0 % 2 ^ 16 + 1) 0 ≡ nameAt directory (c .owner) = ap (λ (n : ℕ). getD ws (n + 1) 0) owner-is ∙ e in
-        λ i. record { line = line-is i; owner = owner-is i; name = name i; seq = seq-is i }
 
     pub title-is : titleAt ws at ≡ titleOf (deckLine (c .line))
     unfolding titleIn

@@ -4,7 +4,6 @@
 --   a deck card    titleOf, titleIn
 --   cards in order placesIn
 --   the decks      deckEnd, rowsIn, tableOf, tableInto, Tables
---   what is shown  Shown, DeckView, shownOf, shownIn, tableView
 use Prim.Native.Nat.{ℕ, zero, suc, _+_, _-_, _/_, _%_, _^_, _≤_}
 use mathlib.Core.Path.{_≡_}
 use mathlib.Core.Bool.{Bool, true, false}
@@ -120,47 +119,3 @@ tableInto ws table = tableOf ws ++ drop (length (tableOf ws)) table
 
 abbrev pub Tables : List ℕ → List ℕ → Type 0
 Tables ws table = cardsPlace ws ≤ length ws → length (rowsIn ws (cardsPlace ws)) ≤ 1024 → table ≡ rowsIn ws (cardsPlace ws)
-
--- WHAT IS SHOWN: an active card as it is printed, its line, its owner's number and name, its sequence number; a deck by its name
-pub record Shown : Type 0 where
-  pub line : List ℕ
-  pub owner : ℕ
-  pub name : ℕ
-  pub seq : ℕ
-
-pub record DeckView : Type 0 where
-  pub name : ℕ
-  pub common : Bool
-  pub lines : List Shown
-
--- the owner's name stands in the directory, that of number 1 after the two words of the header
-abbrev pub shown : List ℕ → ℕ → Seen → Shown
-shown line name c = record { line = line; owner = c .owner; name = name; seq = c .seq }
-
-unfoldable pub shownOf : List ℕ → Seen → Shown
-shownOf ws c = shown (lineIn ws (c .text) (c .next)) (getD ws (c .owner + 1) 0) c
-
--- the active ones up to a place
-abbrev pub consIf : Bool → Shown → List Shown → List Shown
-consIf true c cs = c ∷ cs
-consIf false c cs = cs
-
-abbrev pub shownUpTo : List ℕ → ℕ → List ℕ → List Shown
-shownUpTo ws end [] = []
-shownUpTo ws end (p ∷ ps) =
-    let on = shownUpTo ws end ps in
-    if ltb p end then consIf (seenAt ws p .active) (shownOf ws (seenAt ws p)) on else []
-
-unfoldable pub shownIn : List ℕ → ℕ → ℕ → List Shown
-shownIn ws from end = shownUpTo ws end (placesIn ws from)
-
--- the deck that a row of a table stands for, and those of all
-abbrev pub rowView : List ℕ → List ℕ → ℕ → DeckView
-rowView ws rows i = record { name = getD rows i 0; common = eqb (getD rows (i + 3) 0) 1; lines = shownIn ws (getD rows (i + 1) 0) (getD rows (i + 2) 0) }
-
-unfoldable pub tableView : List ℕ → List ℕ → List DeckView
-tableView ws [] = []
-tableView ws (w ∷ []) = []
-tableView ws (w ∷ f ∷ []) = []
-tableView ws (w ∷ f ∷ t ∷ []) = []
-tableView ws (w ∷ f ∷ t ∷ k ∷ rows) = record { name = w; common = eqb k 1; lines = shownIn ws f t } ∷ tableView ws rows

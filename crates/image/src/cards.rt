@@ -9,7 +9,7 @@ use library::Seen;
 use words::Expanded;
 
 // the most columns of a line
-pub(crate) const COLUMNS: usize = 80;
+pub const COLUMNS: usize = 80;
 // bit 59, set when no more history words follow
 const LAST: u64 = 0o40000000000000000000;
 // 58, activity

@@ -14,19 +14,19 @@ use library::DeckLine;
 use library::Seen;
 
 // a row: a deck's name, the place of its first card after the deck card, the place past its last, and whether it is common
-const ROW: usize = 4;
+pub const ROW: usize = 4;
 
-const FROM: usize = 1;
+pub const FROM: usize = 1;
 
-const TO: usize = 2;
+pub const TO: usize = 2;
 
-const KIND: usize = 3;
+pub const KIND: usize = 3;
 
 const NORMAL: u64 = 0;
 
-const COMMON: u64 = 1;
+pub const COMMON: u64 = 1;
 // "over 255" decks are refused
-const TABLE: usize = 1024;
+pub const TABLE: usize = 1024;
 // word 2: directory count in 35-18, deck count in 17-00
 const COUNTS: usize = 1;
 

@@ -5,7 +5,8 @@ use native.Mathlib.Omega.{arith}
 use borrow.Author.Tests.{not-true, not-false}
 use lib.ListN.{length}
 use lib.Seq.{length-take-le}
-use Rattle.compile.specs.Places.{shownOf, shownIn, tableView}
+use Rattle.image.proofs.Standing.{line-taken}
+use Rattle.compile.specs.TableView.{shownOf, shownIn, tableView}
 use Rattle.compile.specs.Steps.{runAt}
 use Rattle.compile.proofs.Stepping.{visit-passed, visit-text, visit-stopped, visit-opened, opened-some, run-past, run-end, run-on, run-halt}
 use borrow.Author.Needs.{needs}
@@ -18,9 +19,9 @@ use Rattle.compile.proofs.walk.walk.Reads as walk
 use Rattle.compile.proofs.walk.walk.Kinds as walk-kinds
 use Rattle.compile.proofs.walk.+step+walk.Lts-walk as walk-lts
 use Rattle.compile.proofs.calls.asks.Reads as asks-reads
-use Rattle.compile.proofs.cards.line_of.Reads as line-of-reads
-use Rattle.compile.proofs.cards.see.Reads as see-reads
-use Rattle.compile.proofs.cards.word_at.Reads as word-at-reads
+use Rattle.image.proofs.line_of.Reads as line-of-reads
+use Rattle.image.proofs.see.Reads as see-reads
+use Rattle.image.proofs.word_at.Reads as word-at-reads
 use Rattle.compile.proofs.walk.put.Reads as put-reads
 use Rattle.compile.proofs.walk.+step+walk.{statement}
 use Rattle.compile.proofs.walk.+step+walk.Tie.{close}
@@ -293,7 +294,7 @@ step-returns-2 : (t : ℕ) → step-lts.Need-returns-2 (
   walk-below t,
   walk.Post,
 ) (step-at t) step.Post
-step-returns-2 t c = let a = c .before .before .before .before .before .before .before .before .before .before .before .before .before .before .before .before .before .args in c .before .before .put .ensures ∙ visit-text (a .writes) (a .image .now) (a .table .now) (a .depth) (a .c) (a .lines) (a .calls) (a .out .now) (not-false _ (c .before .before .before .before .before .before .before .before .before .before .before .before .if1 .left)) _ (c .before .before .before .before .before .before .before .before .before .before .line-of .ensures .1) _ (c .before .before .before .before .before .before .before .before .asks .ensures) (c .before .before .before .before .before .before .enum-told .given .1) _ (c .before .before .before .before .before .word-at .ensures)
+step-returns-2 t c = let a = c .before .before .before .before .before .before .before .before .before .before .before .before .before .before .before .before .before .args in c .before .before .put .ensures ∙ visit-text (a .writes) (a .image .now) (a .table .now) (a .depth) (a .c) (a .lines) (a .calls) (a .out .now) (not-false _ (c .before .before .before .before .before .before .before .before .before .before .before .before .if1 .left)) _ (line-taken (a .image .now) _ (c .before .before .before .before .before .before .before .before .before .before .line-of .last .1 .1 .1 .0) (a .c .text) (a .c .next) (c .before .before .before .before .before .before .before .before .before .before .line-of .result) (c .before .before .before .before .before .before .before .before .before .before .line-of .ensures .1 .0) (c .before .before .before .before .before .before .before .before .before .before .line-of .ensures .1 .1)) _ (c .before .before .before .before .before .before .before .before .asks .ensures) (c .before .before .before .before .before .before .enum-told .given .1) _ (c .before .before .before .before .before .word-at .ensures)
 
 step-returns-3 : (t : ℕ) → step-lts.Need-returns-3 (
   line-of-reads.Asked,
@@ -307,7 +308,7 @@ step-returns-3 : (t : ℕ) → step-lts.Need-returns-3 (
   walk-below t,
   walk.Post,
 ) (step-at t) step.Post
-step-returns-3 t c = let a = c .before .before .before .before .before .before .before .before .before .before .before .before .args in visit-stopped (a .writes) (a .image .now) (a .table .now) (a .depth) (a .c) (a .lines) (a .calls) (a .out .now) (not-false _ (c .before .before .before .before .before .before .before .if1 .left)) _ (c .before .before .before .before .before .line-of .ensures .1) _ (c .before .before .before .asks .ensures) _ (c .before .k .given .1)
+step-returns-3 t c = let a = c .before .before .before .before .before .before .before .before .before .before .before .before .args in visit-stopped (a .writes) (a .image .now) (a .table .now) (a .depth) (a .c) (a .lines) (a .calls) (a .out .now) (not-false _ (c .before .before .before .before .before .before .before .if1 .left)) _ (line-taken (a .image .now) _ (c .before .before .before .before .before .line-of .last .1 .1 .1 .0) (a .c .text) (a .c .next) (c .before .before .before .before .before .line-of .result) (c .before .before .before .before .before .line-of .ensures .1 .0) (c .before .before .before .before .before .line-of .ensures .1 .1)) _ (c .before .before .before .asks .ensures) _ (c .before .k .given .1)
 
 step-same-length-2 : (t : ℕ) → step-lts.Need-same-length-2 (
   line-of-reads.Asked,
@@ -335,7 +336,7 @@ step-returns-4 : (t : ℕ) → step-lts.Need-returns-4 (
   walk-below t,
   walk.Post,
 ) (step-at t) step.Post
-step-returns-4 t c = let a = c .before .before .before .before .before .before .before .before .before .before .before .before .before .before .before .before .args in c .before .before .walk .ensures ∙ visit-opened (a .writes) (a .image .now) (a .table .now) (a .depth) (a .c) (a .lines) (a .calls) (a .out .now) (not-false _ (c .before .before .before .before .before .before .before .before .before .before .before .if1 .left)) _ (c .before .before .before .before .before .before .before .before .before .line-of .ensures .1) _ (c .before .before .before .before .before .before .before .asks .ensures) _ _ (c .before .before .before .before .before .from .given .1)
+step-returns-4 t c = let a = c .before .before .before .before .before .before .before .before .before .before .before .before .before .before .before .before .args in c .before .before .walk .ensures ∙ visit-opened (a .writes) (a .image .now) (a .table .now) (a .depth) (a .c) (a .lines) (a .calls) (a .out .now) (not-false _ (c .before .before .before .before .before .before .before .before .before .before .before .if1 .left)) _ (line-taken (a .image .now) _ (c .before .before .before .before .before .before .before .before .before .line-of .last .1 .1 .1 .0) (a .c .text) (a .c .next) (c .before .before .before .before .before .before .before .before .before .line-of .result) (c .before .before .before .before .before .before .before .before .before .line-of .ensures .1 .0) (c .before .before .before .before .before .before .before .before .before .line-of .ensures .1 .1)) _ (c .before .before .before .before .before .before .before .asks .ensures) _ _ (c .before .before .before .before .before .from .given .1)
 
 abbrev walk-Inv-loop : walk-lts.InvT-loop
 walk-Inv-loop image table from to depth writes out₀ lines calls at₀ l₀ n₀ out at l n = (length out ≡ length out₀) × (runAt writes (tableView image table) depth (shownIn image from to) lines calls out₀ ≡ runAt writes (tableView image table) depth (shownIn image at to) l n out)
@@ -381,7 +382,7 @@ walk-step-requires : (t : ℕ) → walk-lts.Need-step-requires (
   step-below t,
   step.Post,
 ) (walk-at t) walk.Post walk-Inv-loop walk-μ-loop
-walk-step-requires t c κs = let a = c .before .before .before .before .before .before .before .before .args in let e : a .depth + a .depth + 1 ≡ t = c .before .before .before .before .before .before .before .before .pre .0 in let f : a .depth + a .depth < t = omega arith in let s = c .before .see .ensures in (f, (s .0 .1 .0, (s .0 .1 .1, s .1 .0)))
+walk-step-requires t c κs = let a = c .before .before .before .before .before .before .before .before .args in let e : a .depth + a .depth + 1 ≡ t = c .before .before .before .before .before .before .before .before .pre .0 in let f : a .depth + a .depth < t = omega arith in let s = c .before .see .ensures in (f, s .1 .0)
 
 walk-enum-known-l2 : (t : ℕ) → walk-lts.Need-enum-known-l2 (
   see-reads.Asked,
@@ -421,7 +422,7 @@ walk-loop-less : (t : ℕ) → walk-lts.Need-loop-less (
   step-below t,
   step.Post,
 ) (walk-at t) walk.Post walk-Inv-loop walk-μ-loop
-walk-loop-less t c = omega (arith, c .before .before .before .before .before .before .before .see .ensures .0)
+walk-loop-less t c = let s = c .before .before .before .before .before .before .before .see .ensures .0 in omega (arith, s .0, s .1 .1 (c .before .before .before .before .before .before .before .before .before .loop-test .taken))
 
 walk-loop-again : (t : ℕ) → walk-lts.Need-loop-again (
   see-reads.Asked,

@@ -1,6 +1,6 @@
 -- A common deck is passed over, any other is walked with all levels left.
 use Rattle.compile.proofs.Decking.{deck-common, deck-normal}
-use Rattle.compile.specs.Places.{tableView}
+use Rattle.compile.specs.TableView.{tableView}
 use mathlib.Core.Path.{_∙_}
 use borrow.Author.Needs.{needs}
 use Rattle.compile.proofs.walk.walk_deck.Statement.{statement}

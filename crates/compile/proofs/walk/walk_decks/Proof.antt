@@ -1,7 +1,7 @@
 -- The rest of the table from each row gives the same.
 use Rattle.compile.proofs.Decking.{decks-end, decks-on, decks-halt}
 use Rattle.compile.specs.Steps.{decksOf}
-use Rattle.compile.specs.Places.{tableView}
+use Rattle.compile.specs.TableView.{tableView}
 use lib.ListN.{length, drop}
 use native.Mathlib.Omega.{arith}
 use mathlib.Core.Path.{_≡_, refl, sym, _∙_}
