@@ -199,6 +199,8 @@ cases =
     ∷ refuses (pump ++ ("*IDENT TWO" ∷ "*YANK THREE" ∷ [])) 26 8
     ∷ refuses (pump ++ ("*IDENT TWO" ∷ "*YANK PUMP" ∷ [])) 27 8
     ∷ refuses (pump ++ ("*IDENT TWO" ∷ "*DELETE PUMP.1" ∷ [])) 30 8
+    -- a correction outside a set
+    ∷ refuses ("*DECK P" ∷ "*INSERT P.1" ∷ []) 24 2
     ∷ []
 
 unfoldable pub AllHold : Type 0
