@@ -3,6 +3,7 @@ ghost use Rattle.io.specs.Counts.{Counts};
 use crate::answer::Answer;
 use crate::head::Head;
 use crate::space::fill_bytes;
+use crate::space::fill_words;
 use crate::space::front_bytes;
 use crate::space::front_words;
 use crate::space::sum_bytes;
@@ -113,6 +114,44 @@ fn check(head: Head, words: &[u64]) -> Answer {
     Answer::Numbers(library::checked_number(c), library::checked_place(c), 0, 0)
 }
 
+fn run_into(old: &[u64], stream: &[u8], room: &mut [u64]) -> Answer {
+    fill_words(room);
+    let r = run::run(old, stream, room);
+    let sum = sum_words(room);
+    Answer::Numbers(run::ran_number(r), run::ran_value(r), 0, sum)
+}
+
+fn run(head: Head, words: &[u64], bytes: &[u8], library: &mut [u64]) -> Answer {
+    let n = front_words(head.first / 8, words);
+    let m = front_bytes(head.second, bytes);
+    let room = front_words(head.room, library);
+    if n * 8 < head.first || m < head.second || room < head.room {
+        return Answer::Beyond;
+    }
+    run_into(&words[..n], &bytes[..m], &mut library[..room])
+}
+
+fn compile_into(image: &[u64], room: &mut [u8]) -> Answer {
+    fill_bytes(room);
+    let c = compile::compile(image, room);
+    let sum = sum_bytes(room);
+    Answer::Numbers(
+        compile::compiled_number(c),
+        compile::compiled_first(c),
+        compile::compiled_second(c),
+        sum,
+    )
+}
+
+fn compile(head: Head, words: &[u64], file: &mut [u8]) -> Answer {
+    let n = front_words(head.first / 8, words);
+    let room = front_bytes(head.room, file);
+    if n * 8 < head.first || room < head.room {
+        return Answer::Beyond;
+    }
+    compile_into(&words[..n], &mut file[..room])
+}
+
 pub fn answer(
     head: Head,
     words: &[u64],
@@ -123,6 +162,8 @@ pub fn answer(
     let op = head.op;
     match op {
         1 => check(head, words),
+        2 => run(head, words, bytes, library),
+        3 => compile(head, words, file),
         4 => pack(head, bytes, file),
         5 => unpack(head, bytes, file),
         6 => compress(head, bytes),

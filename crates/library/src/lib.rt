@@ -14,6 +14,8 @@ pub use cards::see;
 pub use decks::cards_end;
 pub use decks::deck_at;
 pub use decks::deck_line;
+pub use tables::header_word;
+pub use tables::reserved_word;
 pub use whole::check;
 pub use whole::yank_flags;
 

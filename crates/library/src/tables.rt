@@ -59,7 +59,8 @@ pub(crate) fn size_fault(image: &[u64]) -> Found
     large_word(image)
 }
 
-fn header_word() -> u64
+// Word 1 of every library.
+pub fn header_word() -> u64
     ensures { λ r. ⌜ r ≡ header ⌝ }
 {
     words::word_of_name(b"CHECK") + CHARACTER_SET + words::word_of_name(b"Y*") / TO_LOWEST
@@ -136,7 +137,7 @@ pub(crate) fn stands(table: &[u64], n: usize, w: u64) -> bool
 }
 
 // YANK$$$ as a word.
-pub(crate) fn reserved_word() -> u64
+pub fn reserved_word() -> u64
     ensures { λ r. ⌜ r ≡ reserved ⌝ }
 {
     words::word_of_name(b"YANK$$$")

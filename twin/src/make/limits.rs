@@ -183,14 +183,26 @@ fn numbered(letter: char, number: usize) -> Name {
     Name::of_bytes(format!("{}{}", letter, number).as_bytes()).expect("a name")
 }
 
-/// Op 1: rows 1, 3 and 5.
+/// Ops 1, 2 and 3 on one library.
+fn each_op<T: Copy + 'static, const N: usize>(items: [T; N], library: fn(T) -> Library) -> Vec<Maker> {
+    let mut makers: Vec<Maker> = Vec::new();
+    for item in items {
+        makers.push(Box::new(move || Case::check(&library(item).image())));
+        makers.push(Box::new(move || run_on(&library(item), "")));
+        makers.push(Box::new(move || Case::compile(&library(item).image(), BYTES)));
+    }
+    makers
+}
+
+/// Rows 1, 3 and 5.
 fn images() -> Vec<Maker> {
-    let mut makers = each([MAX_WORDS - 1, MAX_WORDS, MAX_WORDS + 1], |words| Case::check(&filled(words).image()));
+    let mut makers = each_op([MAX_WORDS - 1, MAX_WORDS, MAX_WORDS + 1], filled);
     makers.extend(each([0, 1, 2, 3], |words| Case::check(&FRESH[..words])));
-    makers.extend(each([MAX_NAMES, MAX_NAMES + 1], |names| Case::check(&with_names(names).image())));
-    makers.extend(each([MAX_DECKS, MAX_DECKS + 1], |decks| Case::check(&with_decks(decks).image())));
-    makers.extend(each([62, 63, MAX_BYTES, MAX_BYTES + 1, 67, 68], |bytes| Case::check(&with_bytes(bytes).image())));
-    makers.extend(each([MAX_CARDS, MAX_CARDS + 1], |cards| Case::check(&with_cards(cards).image())));
+    makers.extend(each([0, 1, 2, 3], |words| Case::compile(&FRESH[..words], 0)));
+    makers.extend(each_op([MAX_NAMES, MAX_NAMES + 1], with_names));
+    makers.extend(each_op([MAX_DECKS, MAX_DECKS + 1], with_decks));
+    makers.extend(each_op([62, 63, MAX_BYTES, MAX_BYTES + 1, 67, 68], with_bytes));
+    makers.extend(each_op([MAX_CARDS, MAX_CARDS + 1], with_cards));
     makers.extend(each([3, LAST_SEQUENCE], |number| {
         Case::check(&with_card(|library, card| library.cards[card].sequence = number).image())
     }));
@@ -220,6 +232,8 @@ fn streams() -> Vec<Maker> {
     let mut makers = each([MAX_STREAM - 1, MAX_STREAM, MAX_STREAM + 1], |bytes| run_on_fresh(&commented(bytes)));
     makers.extend(each([MAX_STREAM, MAX_STREAM + 1], |bytes| run_on_fresh(&vec![b'X'; bytes])));
     makers.extend(each([MAX_STREAM, MAX_STREAM + 1], |bytes| Case::run(&FRESH[..2], &vec![b'X'; bytes], 8)));
+    makers.extend(each([MAX_STREAM, MAX_STREAM + 1], |bytes| run_on(&Library::fresh(), &texts_to(MAX_CARDS, bytes))));
+    makers.extend(each([MAX_STREAM, MAX_STREAM + 1], |bytes| run_on(&Library::fresh(), &texts_to(MAX_CARDS + 1, bytes))));
     makers.extend(each(["", "X", "*/", "*END", "*DECK N", "*IDENT S,", " ", "*PURGE"], |line| columns_case(line, COLUMNS)));
     makers.extend(each(["", "X", "*/", "*END", "*DECK N", "*IDENT S,", " ", "*PURGE"], |line| columns_case(line, COLUMNS + 1)));
     makers.extend(each(["P.262143", "P.262144", "P.999999", "P.0000002", "P.000002", "P.0", "P.1000000"], |card| {
@@ -231,7 +245,7 @@ fn streams() -> Vec<Maker> {
     makers.extend(each(["*ID Z0\n*Y ALL\n", "*ID Z0\n*D ALL.1\n", ""], |after| {
         run_on(&made_by(b"*DECK D0\n"), &(widest_yank() + after))
     }));
-    makers.extend(each([2, 3, 400], |sets| run_on(&base(), &yank_chain(sets))));
+    makers.extend(each([2, 3, 400, MAX_NAMES - 2, MAX_NAMES - 1], |sets| run_on(&base(), &yank_chain(sets))));
     makers.extend(each([0, 2, 3, 4], |room| Case::run(&FRESH, b"", room)));
     makers.extend(each([6, 7, 8], |room| Case::run(&FRESH, b"*DECK P", room)));
     makers.push(Box::new(|| {
@@ -271,6 +285,16 @@ fn commented(bytes: usize) -> Vec<u8> {
     stream
 }
 
+/// A deck of that many cards, deck card and all, that many bytes in all; the last line is the longest.
+fn texts_to(cards: usize, bytes: usize) -> String {
+    let deck = "*DECK P\n";
+    let lines = cards - 1;
+    let each = (bytes - deck.len()) / lines - 1;
+    let line = "X".repeat(each) + "\n";
+    let last = bytes - deck.len() - (lines - 1) * line.len() - 1;
+    [deck, &line.repeat(lines - 1), &"X".repeat(last), "\n"].concat()
+}
+
 fn columns_case(line: &str, columns: usize) -> Case {
     let mut long = line.as_bytes().to_vec();
     long.resize(columns, if line.starts_with('X') { b'X' } else { b' ' });
@@ -295,11 +319,24 @@ fn runs() -> Vec<Maker> {
     makers.extend(each([MAX_CARDS - 1, MAX_CARDS], |cards| {
         run_on(&Library::fresh(), &["*DECK P\n", &"X\n".repeat(cards)].concat())
     }));
+    makers.extend(each(["*INSERT P.1", "*BEFORE P.2", "*DELETE P.2"], |directive| insertion(directive, "", MAX_CARDS - 2)));
+    makers.extend(each(["*INSERT P.1", "*BEFORE P.2", "*DELETE P.2"], |directive| insertion(directive, "", MAX_CARDS - 1)));
+    makers.extend(each([LINES_OF_FIVE, LINES_OF_FIVE + 1], |lines| insertion("*INSERT P.2", FIVE_WORDS, lines)));
     makers.extend(each([MAX_BYTES / 2 - 1, MAX_BYTES / 2], |times| {
         let pair = "*D P.2\n*R P.2\n";
         run_on(&with_card(|_, _| ()), &["*IDENT U\n", &pair.repeat(times), "*D P.2\n"].concat())
     }));
     makers
+}
+
+/// A line whose card has five words, and how many of them a library has words for beside deck P, P.2 and two sets.
+const FIVE_WORDS: &str = "::::::::::::::::";
+const LINES_OF_FIVE: usize = (MAX_WORDS - 11) / 5;
+
+/// Text lines after one directive.
+fn insertion(directive: &str, line: &str, lines: usize) -> Case {
+    let text = [line, "\n"].concat().repeat(lines);
+    run_on(&with_card(|_, _| ()), &["*IDENT U\n", directive, "\n", &text].concat())
 }
 
 /// A numbered line, that many times.
@@ -338,6 +375,9 @@ fn compiles() -> Vec<Maker> {
     makers.extend(each([0, LINE_BYTES - 1, LINE_BYTES, LINE_BYTES + 1], |room| {
         Case::compile(&with_card(|_, _| ()).image(), room)
     }));
+    makers.extend(each([2, 3, 10, 100, LINES - 1], |lines| rooms_case(lines, lines * LINE_BYTES - 1)));
+    makers.extend(each([2, 3, 10, 100, LINES - 1], |lines| rooms_case(lines, lines * LINE_BYTES)));
+    makers.extend(each([2, 3, 10, 100, LINES - 1], |lines| rooms_case(lines, lines * LINE_BYTES + 1)));
     makers.extend(each([2, 3, 400], |sets| compile_of(&["*DECK P\n", &yank_chain(sets)].concat(), BYTES)));
     makers.extend(each([7, 8], |lines| compile_of("*COMDECK Q\nT\n*CALL Q\n*DECK P\n*CALL Q\n", lines * LINE_BYTES)));
     makers.extend(each([71, 72, 73, COLUMNS], |columns| {
@@ -354,6 +394,11 @@ fn compiles() -> Vec<Maker> {
         Case::compile(&made_by(stream).image(), LINE_BYTES - 1)
     }));
     makers
+}
+
+/// A file of that many lines, a call of an empty deck after the last.
+fn rooms_case(lines: usize, room: usize) -> Case {
+    compile_of(&["*COMDECK Q\n*DECK P\n", &"X\n".repeat(lines), "*CALL Q\n"].concat(), room)
 }
 
 fn compile_of(stream: &str, room: usize) -> Case {

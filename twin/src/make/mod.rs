@@ -1,6 +1,7 @@
 //! Making cases: each kind from its own part, all from one seed.
 
 mod drafts;
+mod faults;
 mod forms;
 mod libraries;
 mod limits;
@@ -16,6 +17,7 @@ use crate::compile::{write, LINE_BYTES};
 use crate::library::Library;
 use crate::refusal::Number;
 use drafts::Draft;
+pub use faults::write_cases as write_faults;
 pub use libraries::{any as any_library, made_by, EXAMPLE};
 pub use limits::count as limit_cases;
 pub use random::Random;

@@ -1,0 +1,9 @@
+pub mod Counted
+pub mod Pointing
+pub mod Beginning
+pub mod Judging
+pub mod Entered
+pub mod Rowing
+pub mod Kinding
+pub mod Listing
+pub mod Examples

@@ -1,0 +1,89 @@
+-- The rows of an image that the check accepts are those of its library. Assumes nothing.
+--   kinds-are                 each entry's kind
+--   rows-are                  each entry's row
+--   listed-short, listed-all  the rows in their space
+use Prim.Native.Nat.{ℕ, zero, suc, _+_, _-_, _*_, _≤_, _<_}
+use native.Mathlib.Omega.{arith}
+use mathlib.Core.Path.{_≡_, refl, sym, ap, _∙_, subst}
+use mathlib.Core.List.{List, [], _∷_, _++_}
+use borrow.Author.Tests.{le-leb, lt-leb}
+use lib.ListN.{length, getD, drop, length-append}
+use Rattle.words.specs.Names.{leftJustified}
+use Rattle.library.specs.Library.{Deck, Library, nameAt}
+use Rattle.library.specs.Yanks.{yanked}
+use Rattle.library.specs.Check.{good, check, directoryCount, directoryOf, cardsPlace, partsOf}
+use Rattle.library.specs.Found.{Tabled}
+use Rattle.library.specs.Walks.{Spans}
+use Rattle.library.specs.Rows.{flagged, Flags}
+use Rattle.library.proofs.Accepted.{check-accepted}
+use Rattle.library.proofs.CheckSound.{check-sound}
+use Rattle.library.proofs.Tabling.{tabled}
+use Rattle.library.proofs.Checking.{cards-of}
+use Rattle.library.proofs.Spanning.{walks-span}
+use Rattle.keeper.specs.Keeper.{entryName, deckKind, purgedOr, kindOf, yankMark, rowOf, firstRows, rowsOf, listed}
+use Rattle.keeper.specs.Parts.{Answers, wordName, rowBytes, rowAt, kindsOf, Kinds}
+use Rattle.keeper.specs.declared.Told.the-variants.{Done, Space}
+use Rattle.keeper.proofs.Judging.{directory-is, count-is, name-is}
+use Rattle.keeper.proofs.Rowing.{left-long, first-long}
+use Rattle.keeper.proofs.Kinding.{decksKinds, cards-decks, decks-kinds}
+
+module _ (ws : List ℕ) (l : Library) (e : check ws ≡ good l) where
+  -- where every entry was a set
+  module _ (sets : List ℕ) (long : length sets ≡ 1024) (all : (n : ℕ) → n < 1024 → getD sets n 0 ≡ 83) where
+    pub kinds-are : (from : ℕ) (kinds : List ℕ) → from ≡ cardsPlace ws → Kinds ws from sets kinds → (n : ℕ) → n < 1024 → getD kinds n 0 ≡ deckKind n (l .decks)
+    kinds-are from kinds p k n h =
+        let a = check-accepted ws l e in
+        let tab : Tabled ws = tabled ws (a .tables) in
+        let sp : Spans (directoryOf ws) ws (cardsPlace ws) (length ws) (a .stored) =
+        walks-span (directoryOf ws) ws (cardsPlace ws) (a .stored) (tab .inside) (cards-of ws (a .stored) (a .read) .walks) in
+        let is : kinds ≡ kindsOf (a .stored) sets = subst (λ (f : ℕ). Kinds ws f sets kinds) p k (directoryOf ws) (a .stored) sp in
+        let same : partsOf (a .stored) .decks ≡ l .decks = ap (λ (m : Library). m .decks) (a .same) in
+        ap (λ (r : List ℕ). getD r n 0) (is ∙ cards-decks (a .stored) sets ∙ ap (λ (ds : List Deck). decksKinds ds sets) same)
+        ∙ decks-kinds (l .decks) sets n (omega arith) (all n h) (check-sound ws l e .differ)
+
+  few : directoryCount ws ≤ 1023
+  few = tabled ws (check-accepted ws l e .tables) .entries
+
+  module _ (kinds flags : List ℕ) (right : (n : ℕ) → n < 1024 → getD kinds n 0 ≡ deckKind n (l .decks)) (yanks : Flags ws flags) where
+    row-is : (n : ℕ) → 0 < n → n ≤ directoryCount ws → rowAt (directoryOf ws) kinds flags n ≡ rowOf l n
+    unfolding rowAt rowBytes rowOf kindOf
+    row-is n pos h =
+        let w : getD (directoryOf ws) (n - 1) 0 ≡ nameAt (l .directory) n = ap (λ (d : List ℕ). nameAt d n) (sym (directory-is ws l e)) in
+        let name : wordName (getD (directoryOf ws) (n - 1) 0) ≡ entryName (l .directory) n = ap wordName w ∙ name-is ws l e n pos h in
+        let k : getD kinds n 0 ≡ deckKind n (l .decks) = right n (omega (arith, few)) in
+        let y : flagged flags n ≡ yanked l 0 n = yanks l e 0 n in
+        λ i. leftJustified 9 (name i) ++ (purgedOr (w i) (k i) ∷ yankMark (y i) ∷ [])
+
+    first-are : (n : ℕ) → n ≤ directoryCount ws → firstRows (rowAt (directoryOf ws) kinds flags) n ≡ firstRows (rowOf l) n
+    first-are zero h = refl
+    first-are (suc n) h =
+        let a = first-are n (omega arith) in
+        let b = row-is (suc n) (omega arith) h in
+        λ i. a i ++ b i
+
+    pub rows-are : (d before after : List ℕ) → d ≡ directoryOf ws → after ≡ firstRows (rowAt d kinds flags) (length d) ++ drop (length d * 11) before
+        → after ≡ rowsOf l ++ drop (directoryCount ws * 11) before
+    rows-are d before after is p =
+        let c : length (directoryOf ws) ≡ directoryCount ws = ap length (sym (directory-is ws l e)) ∙ count-is ws l e in
+        p ∙ ap (λ (x : List ℕ). firstRows (rowAt x kinds flags) (length x) ++ drop (length x * 11) before) is
+        ∙ ap (λ (n : ℕ). firstRows (rowAt (directoryOf ws) kinds flags) n ++ drop (n * 11) before) c
+        ∙ ap (λ (r : List ℕ). r ++ drop (directoryCount ws * 11) before) (first-are (directoryCount ws) (omega arith) ∙ ap (firstRows (rowOf l)) (sym (count-is ws l e)))
+
+  -- IN THEIR SPACE
+  row-of-long : (n : ℕ) → length (rowOf l n) ≡ 11
+  unfolding rowOf
+  row-of-long n = length-append (leftJustified 9 (entryName (l .directory) n)) (kindOf l n ∷ yankMark (yanked l 0 n) ∷ []) ∙ omega (arith, left-long (entryName (l .directory) n))
+
+  rows-long : length (rowsOf l) ≡ directoryCount ws * 11
+  rows-long = first-long (rowOf l) row-of-long (length (l .directory)) ∙ ap (λ (n : ℕ). n * 11) (count-is ws l e)
+
+  pub listed-short : (rows : List ℕ) → length rows < directoryCount ws * 11 → Answers (listed (length rows) l) Space rows rows
+  listed-short rows h =
+      let lt : length rows < length (rowsOf l) = omega (arith, rows-long) in
+      rw (lt-leb (length (rowsOf l)) (length rows) lt) (refl, refl)
+
+  pub listed-all : (rows after : List ℕ) → directoryCount ws * 11 ≤ length rows → after ≡ rowsOf l ++ drop (directoryCount ws * 11) rows
+      → Answers (listed (length rows) l) (Done (directoryCount ws)) rows after
+  listed-all rows after h p =
+      let le : length (rowsOf l) ≤ length rows = omega (arith, rows-long) in
+      rw (le-leb (length (rowsOf l)) (length rows) le) (ap Done (sym (count-is ws l e)), p ∙ ap (λ (n : ℕ). rowsOf l ++ drop n rows) (sym rows-long))
