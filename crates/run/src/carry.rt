@@ -10,15 +10,12 @@ ghost use Rattle.run.specs.Written.{imageWords, Finishes};
 use crate::Ran;
 use crate::Why;
 use crate::card::FIELD;
+use crate::desk::AHEAD;
 use crate::desk::Desk;
+use crate::desk::ROOM;
 
 // An image's first word: CHECK, the character set 4, Y and the master character.
 const HEADER: u64 = 0o03100503130004003147;
-
-// The words of a library's header, with YANK$$$ in the deck list, and of the array that its cards stand in.
-const AHEAD: usize = 3;
-
-pub(crate) const ROOM: usize = 65536;
 
 // The k words from `first` on go to the place `at`.
 pub(crate) fn copy_words(out: &mut [u64], at: usize, from: &[u64], first: usize, k: usize)

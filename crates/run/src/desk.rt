@@ -34,10 +34,10 @@ pub(crate) enum Stepped {
     Refused(Why),
 }
 
-// The words of the array that cards stand in, and of the tables' header with YANK$$$ in the deck list.
-const ROOM: usize = 65536;
+// The words of the array that cards stand in, and of a library's header with YANK$$$ in the deck list.
+pub(crate) const ROOM: usize = 65536;
 
-const HEADER: usize = 3;
+pub(crate) const AHEAD: usize = 3;
 
 // the limits of rows 3 and 5
 const ENTRIES: usize = 1023;
@@ -64,7 +64,7 @@ pub(crate) fn limited(d: Desk) -> Stepped
     if CARDS < d.cards {
         return Stepped::Refused(Why::Limit);
     }
-    if ROOM < HEADER + d.entries + d.decks + g.lo + (ROOM - g.hi) {
+    if ROOM < AHEAD + d.entries + d.decks + g.lo + (ROOM - g.hi) {
         return Stepped::Refused(Why::Limit);
     }
     Stepped::Went(d)

@@ -77,13 +77,15 @@ pub(crate) fn insert_step(w: &mut [u64], dir: &[u64], d: Desk, r: CardName) -> S
 
 // Whether a deck's card has this owner and number: flag n is not 0 where n is a deck's.
 pub(crate) fn is_title(decks: &[u64], own: u64, seq: u64) -> bool
-    requires { ⌜ (1024 < length (now decks)) × (own ≤ 1023) ⌝ }
     ensures { λ b. ⌜ b ≡ titled (now (decks .entry)) own seq ⌝ }
 {
     if seq != 1 {
         return false;
     }
     let n = own as usize;
+    if decks.len() <= n {
+        return false;
+    }
     if decks[n] == 0 {
         return false;
     }

@@ -1,18 +1,17 @@
 // A library that the check accepted is taken up: its tables and its cards are copied, the decks' numbers flagged, the cards counted.
 ghost use mathlib.Core.Path.{_≡_};
-ghost use mathlib.Core.Bool.{Bool, false};
-ghost use Prim.Native.Nat.{ℕ, _+_, _-_, _≤_, _<_};
+ghost use Prim.Native.Nat.{_+_, _-_, _≤_, _<_};
 ghost use lib.ListN.{length, drop};
 ghost use lib.Seq.{paste};
-ghost use Rattle.run.specs.Corrected.{titled};
 ghost use Rattle.run.specs.Desk.{Sane};
 ghost use Rattle.run.specs.Loaded.{NoFlags, FlagsDecks, FindsTitle, Readable, Loads};
 use crate::card::FIELD;
 use crate::card::see;
-use crate::carry::ROOM;
 use crate::carry::copy_words;
 use crate::desk::Desk;
+use crate::desk::ROOM;
 use crate::desk::TextAt;
+use crate::fixes::is_title;
 use crate::gap::Gap;
 use crate::seek::Place;
 use crate::seek::find;
@@ -43,23 +42,6 @@ fn flag_decks(dir: &[u64], n: usize, names: &[u64], k: usize, flags: &mut [u64])
     }
 }
 
-// Whether a deck's card has this owner and number, whatever the owner.
-fn is_first(decks: &[u64], own: u64, seq: u64) -> bool
-    ensures { λ b. ⌜ b ≡ titled (now (decks .entry)) own seq ⌝ }
-{
-    if seq != 1 {
-        return false;
-    }
-    let n = own as usize;
-    if decks.len() <= n {
-        return false;
-    }
-    if decks[n] == 0 {
-        return false;
-    }
-    true
-}
-
 // The first deck card: YANK$$$ is ahead of it.
 fn first_title(w: &[u64], to: usize, decks: &[u64]) -> Place
     requires { ⌜ (to ≤ length (now w)) × (length (now w) ≤ 65536) ⌝ }
@@ -72,7 +54,7 @@ fn first_title(w: &[u64], to: usize, decks: &[u64]) -> Place
         let c = see(w, at);
         let heads = c.heads;
         let count = c.count;
-        if is_first(decks, c.owner, c.seq) {
+        if is_title(decks, c.owner, c.seq) {
             return Place { at: at, index: i };
         }
         at = at + heads + count;

@@ -1,10 +1,9 @@
 // DELETE and RESTORE (01, "Directives"): the range is sought, tested for deck cards, and marked; where it is in YANK$$$, all bits are settled again.
 ghost use mathlib.Core.Path.{_≡_};
-ghost use Prim.Native.Nat.{ℕ, _≤_, _<_};
+ghost use Prim.Native.Nat.{_≤_, _<_};
 ghost use lib.ListN.{length};
 ghost use Rattle.run.specs.GapWords.{Ordered};
 ghost use Rattle.run.specs.Desk.{Sane, SaneAfter};
-ghost use Rattle.run.specs.Corrected.{titled};
 ghost use Rattle.run.specs.Resettled.{MarkSteps};
 ghost use Rattle.run.specs.RangeSteps.{HasTitle, LeadAfter, YankMarks, MarksFound};
 use crate::Why;
@@ -14,6 +13,7 @@ use crate::desk::Stepped;
 use crate::desk::TextAt;
 use crate::desk::limited;
 use crate::fixes::Sought;
+use crate::fixes::is_title;
 use crate::fixes::seek_card;
 use crate::gap::Gap;
 use crate::gap::open_ahead;
@@ -22,23 +22,6 @@ use crate::marks::Marked;
 use crate::marks::mark_between;
 use crate::yanks::resettle;
 use lines::CardName;
-
-// Whether a card with this owner and number, as it was read, is a deck's.
-fn is_deck_card(decks: &[u64], own: u64, seq: u64) -> bool
-    ensures { λ b. ⌜ b ≡ titled (now (decks .entry)) own seq ⌝ }
-{
-    if seq != 1 {
-        return false;
-    }
-    let n = own as usize;
-    if decks.len() <= n {
-        return false;
-    }
-    if decks[n] == 0 {
-        return false;
-    }
-    true
-}
 
 // Whether one of the n cards from `from` on is a deck card.
 fn has_title(w: &[u64], decks: &[u64], from: usize, n: usize) -> bool
@@ -52,7 +35,7 @@ fn has_title(w: &[u64], decks: &[u64], from: usize, n: usize) -> bool
             return false;
         }
         let c = see(w, at);
-        if is_deck_card(decks, c.owner, c.seq) {
+        if is_title(decks, c.owner, c.seq) {
             return true;
         }
         at = at + c.heads + c.count;

@@ -14,52 +14,42 @@ use Rattle.run.proofs.fixes.is_title.Reads as is-title-reads
 use Rattle.run.proofs.fixes.seek_card.Reads as seek-card-reads
 use Rattle.run.proofs.gap.open_ahead.Reads as open-ahead-reads
 
--- src/fixes.rt:100:9
 returns : tie.Need-returns
 returns c = let a = c .before .before .before .before .before .args in (tt, before-off (a .w .now) (a .dir .now) (a .decks .now) (a .d) (a .r) _ (not-taken (a .d .set) (c .if1 .taken)))
 
--- src/fixes.rt:102:9
 seek-card-requires : tie.Need-seek-card-requires
 seek-card-requires c κs = search needs
 
--- src/fixes.rt:104:9
 same-length : tie.Need-same-length
 same-length c = search needs
 
--- src/fixes.rt:104:9
 returns-2 : tie.Need-returns-2
 returns-2 c =
     let a = c .before .before .before .before .before .before .before .before .before .before .args in
     let f = c .before .before .before .seek-card in
     (tt, before-missing (a .w .now) (a .dir .now) (a .decks .now) (a .d) (a .r) _ (not-left (a .d .set) (c .before .before .before .before .before .if1 .left)) (f .result) (f .ensures .1) (c .if2 .taken))
 
--- src/fixes.rt:107:9
 same-length-2 : tie.Need-same-length-2
 same-length-2 c = search needs
 
--- src/fixes.rt:107:9
 returns-3 : tie.Need-returns-3
 returns-3 c =
     let a = c .before .before .before .before .before .before .before .before .before .before .before .before .before .args in
     let f = c .before .before .before .before .before .before .seek-card in
     (tt, before-yanks (a .w .now) (a .dir .now) (a .decks .now) (a .d) (a .r) _ (not-left (a .d .set) (c .before .before .before .before .before .before .before .before .if1 .left)) (f .result) (f .ensures .1) (c .before .before .before .if2 .left) (c .if3 .taken))
 
--- src/fixes.rt:109:8
 is-title-requires : tie.Need-is-title-requires
 is-title-requires c κs = search needs
 
--- src/fixes.rt:110:9
 same-length-3 : tie.Need-same-length-3
 same-length-3 c = search needs
 
--- src/fixes.rt:110:9
 returns-4 : tie.Need-returns-4
 returns-4 c =
     let a = c .before .before .before .before .before .before .before .before .before .before .before .before .before .before .before .args in
     let f = c .before .before .before .before .before .before .before .before .seek-card in
     (tt, before-deck (a .w .now) (a .dir .now) (a .decks .now) (a .d) (a .r) _ (not-left (a .d .set) (c .before .before .before .before .before .before .before .before .before .before .if1 .left)) (f .result) (f .ensures .1) (c .before .before .before .before .before .if2 .left) (sym (c .before .is-title .ensures) ∙ c .if4 .taken))
 
--- src/fixes.rt:113:9
 open-ahead-requires : tie.Need-open-ahead-requires
 open-ahead-requires c κs =
     let a = c .before .before .before .before .before .before .before .before .before .before .before .before .before .before .before .before .before .args in
@@ -67,11 +57,9 @@ open-ahead-requires c κs =
     let f = c .before .before .before .before .before .before .before .before .before .before .seek-card .ensures .0 in
     search needs
 
--- src/fixes.rt:94:1
 same-length-4 : tie.Need-same-length-4
 same-length-4 c = search needs
 
--- src/fixes.rt:94:1
 returns-5 : tie.Need-returns-5
 returns-5 c =
     let a = c .before .before .before .before .before .before .before .before .before .before .before .before .before .before .before .before .before .before .before .before .args in

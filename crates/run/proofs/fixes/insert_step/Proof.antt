@@ -14,45 +14,36 @@ use Rattle.run.proofs.fixes.insert_step.Lts as lts
 use Rattle.run.proofs.fixes.seek_card.Reads as seek-card-reads
 use Rattle.run.proofs.gap.open_after.Reads as open-after-reads
 
--- src/fixes.rt:54:9
 returns : tie.Need-returns
 returns c = let a = c .before .before .before .before .args in (tt, insert-off (a .w .now) (a .dir .now) (a .d) (a .r) _ (not-taken (a .d .set) (c .if1 .taken)))
 
--- src/fixes.rt:56:9
 seek-card-requires : tie.Need-seek-card-requires
 seek-card-requires c κs = search needs
 
--- src/fixes.rt:58:9
 same-length : tie.Need-same-length
 same-length c = search needs
 
--- src/fixes.rt:58:9
 returns-2 : tie.Need-returns-2
 returns-2 c =
     let a = c .before .before .before .before .before .before .before .before .before .args in
     let f = c .before .before .before .seek-card in
     (tt, insert-missing (a .w .now) (a .dir .now) (a .d) (a .r) _ (not-left (a .d .set) (c .before .before .before .before .before .if1 .left)) (f .result) (f .ensures .1) (c .if2 .taken))
 
--- src/fixes.rt:61:9
 same-length-2 : tie.Need-same-length-2
 same-length-2 c = search needs
 
--- src/fixes.rt:61:9
 returns-3 : tie.Need-returns-3
 returns-3 c =
     let a = c .before .before .before .before .before .before .before .before .before .before .before .before .args in
     let f = c .before .before .before .before .before .before .seek-card in
     (tt, insert-yanks (a .w .now) (a .dir .now) (a .d) (a .r) _ (not-left (a .d .set) (c .before .before .before .before .before .before .before .before .if1 .left)) (f .result) (f .ensures .1) (c .before .before .before .if2 .left) (c .if3 .taken))
 
--- src/fixes.rt:64:9
 open-after-requires : tie.Need-open-after-requires
 open-after-requires c κs = search needs
 
--- src/fixes.rt:48:1
 same-length-3 : tie.Need-same-length-3
 same-length-3 c = search needs
 
--- src/fixes.rt:48:1
 returns-4 : tie.Need-returns-4
 returns-4 c =
     let a = c .before .before .before .before .before .before .before .before .before .before .before .before .before .before .before .before .before .args in

@@ -14,22 +14,18 @@ use Rattle.run.proofs.fixes.seek_card.Lts as lts
 use Rattle.run.proofs.seek.locate.Reads as locate-reads
 use Rattle.run.proofs.starts.entry_of.Reads as entry-of-reads
 
--- src/fixes.rt:30:15
 entry-of-requires : tie.Need-entry-of-requires
 entry-of-requires c κs = search needs
 
--- src/fixes.rt:32:9
 returns : tie.Need-returns
 returns c =
     let a = c .before .before .before .before .args in
     let e = c .before .entry-of .ensures .1 in
     (search needs, seek-unknown (a .w .now) (a .dir .now) (a .d) (a .r) 0 (omega (arith, e, c .if1 .taken)))
 
--- src/fixes.rt:39:9
 locate-requires : tie.Need-locate-requires
 locate-requires c κs = search needs
 
--- src/fixes.rt:24:1
 returns-2 : tie.Need-returns-2
 returns-2 c =
     let a = c .before .before .before .before .before .before .args in

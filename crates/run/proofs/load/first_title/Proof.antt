@@ -9,7 +9,7 @@ use Rattle.run.proofs.load.first_title.Tie as tie
 use Rattle.run.proofs.load.first_title.Reads as reads
 use Rattle.run.proofs.load.first_title.Lts as lts
 use Rattle.run.proofs.card.see.Reads as see-reads
-use Rattle.run.proofs.load.is_first.Reads as is-first-reads
+use Rattle.run.proofs.fixes.is_title.Reads as is-title-reads
 
 abbrev Inv-loop : tie.InvT-loop
 Inv-loop w to decks at₀ i₀ at i = (i ≤ at) × ((at ≤ 400000) × Passes w to decks at i)
@@ -23,14 +23,14 @@ loop-holds c = (omega arith, (omega arith, pass-start))
 see-requires : tie.Need-see-requires Inv-loop μ-loop
 see-requires c κs = search needs
 
-is-first-requires : tie.Need-is-first-requires Inv-loop μ-loop
-is-first-requires c κs = search needs
+is-title-requires : tie.Need-is-title-requires Inv-loop μ-loop
+is-title-requires c κs = search needs
 
 returns : tie.Need-returns Inv-loop μ-loop
 returns c =
     let l = c .before .before .before .before .loop in
     let s = c .before .before .see in
-    (omega arith, pass-found (l .inv .1 .1) (s .result) (s .ensures .1) (c .before .before .before .loop-test .taken) (sym (c .before .is-first .ensures) ∙ c .if1 .taken) _ refl refl)
+    (omega arith, pass-found (l .inv .1 .1) (s .result) (s .ensures .1) (c .before .before .before .loop-test .taken) (sym (c .before .is-title .ensures) ∙ c .if1 .taken) _ refl refl)
 
 add-at : tie.Need-add-at Inv-loop μ-loop
 add-at c = search needs
@@ -48,7 +48,7 @@ loop-again : tie.Need-loop-again Inv-loop μ-loop
 loop-again c =
     let l = c .before .before .before .before .loop in
     let s = c .before .before .see in
-    (omega arith, (omega arith, pass-on (l .inv .1 .1) (s .result) (s .ensures .1) (c .before .before .before .loop-test .taken) (sym (c .before .is-first .ensures) ∙ c .if1 .left)))
+    (omega arith, (omega arith, pass-on (l .inv .1 .1) (s .result) (s .ensures .1) (c .before .before .before .loop-test .taken) (sym (c .before .is-title .ensures) ∙ c .if1 .left)))
 
 returns-2 : tie.Need-returns-2 Inv-loop μ-loop
 returns-2 c = let l = c .before .loop in (search needs, pass-end (l .inv .1 .1) (c .loop-test .left) _ refl refl)
@@ -61,7 +61,7 @@ first-title-spec =
     μ-loop
     loop-holds
     see-requires
-    is-first-requires
+    is-title-requires
     returns
     add-at
     add-at-2

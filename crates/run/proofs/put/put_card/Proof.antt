@@ -55,11 +55,11 @@ mul-w-3 c = search needs
 slice-write-w : tie.Need-slice-write-w
 slice-write-w c = search needs
 
-add-write-text : tie.Need-add-write-text
-add-write-text c = search needs
+add-copy-words : tie.Need-add-copy-words
+add-copy-words c = search needs
 
-write-text-requires : tie.Need-write-text-requires
-write-text-requires c κs = (omega arith, rw length-set (omega arith))
+copy-words-requires : tie.Need-copy-words-requires
+copy-words-requires c κs = (omega arith, rw length-set (omega arith))
 
 add-t9 : tie.Need-add-t9
 add-t9 c = search needs
@@ -70,7 +70,7 @@ add-t10 c = search needs
 same-length : tie.Need-same-length
 same-length c =
     let a = c .before .before .before .before .before .before .before .args in
-    c .before .before .write-text .kept .0 ∙ length-set (a .w .now) (a .g .lo) (newHead (a .k) (a .seq) (a .n))
+    c .before .before .copy-words .kept .0 ∙ length-set (a .w .now) (a .g .lo) (newHead (a .k) (a .seq) (a .n))
 
 returns-2 : tie.Need-returns-2
 returns-2 c =
@@ -78,7 +78,7 @@ returns-2 c =
     let p = c .before .before .before .before .before .before .before .pre in (
       omega arith,
       work-put (a .w .now) (a .g) (a .text .now) (a .k) (a .seq) (a .n) (p .0) (p .1 .1 .0) (p .1 .1 .1 .0) (p .1 .1 .1 .1 .0)
-          (p .1 .1 .1 .1 .1) _ _ (rw (c .before .before .write-text .ensures)
+          (p .1 .1 .1 .1 .1) _ _ (rw (c .before .before .copy-words .ensures)
           (put-done (a .w .now) (a .g) (a .text .now) (a .k) (a .seq) (a .n) (p .0) (p .1 .1 .0) (c .before .before .before .before .if1 .left))),
     )
 
@@ -100,8 +100,8 @@ put-card-spec =
     add-w-5
     mul-w-3
     slice-write-w
-    add-write-text
-    write-text-requires
+    add-copy-words
+    copy-words-requires
     add-t9
     add-t10
     same-length

@@ -9,7 +9,7 @@ use Rattle.run.proofs.ranges.has_title.Tie as tie
 use Rattle.run.proofs.ranges.has_title.Reads as reads
 use Rattle.run.proofs.ranges.has_title.Lts as lts
 use Rattle.run.proofs.card.see.Reads as see-reads
-use Rattle.run.proofs.ranges.is_deck_card.Reads as is-deck-card-reads
+use Rattle.run.proofs.fixes.is_title.Reads as is-title-reads
 
 abbrev Inv-loop : tie.InvT-loop
 Inv-loop w decks from n at₀ left₀ at left = (at ≤ 400000) × Rests w decks from n at left
@@ -17,51 +17,41 @@ Inv-loop w decks from n at₀ left₀ at left = (at ≤ 400000) × Rests w decks
 abbrev μ-loop : tie.MeasureT-loop
 μ-loop w decks from n at₀ left₀ at left = left
 
--- src/ranges.rt:50:5
 loop-holds : tie.Need-loop-holds Inv-loop μ-loop
 loop-holds c = let a = c .before .before .args in (omega arith, rest-start (a .w .now) (a .decks .now) (a .from) (a .n))
 
--- src/ranges.rt:52:13
 returns : tie.Need-returns Inv-loop μ-loop
 returns c =
     let a = c .before .before .before .before .before .args in
     let l = c .before .before .loop in
     rest-end (a .w .now) (a .decks .now) (a .from) (a .n) (l .at) (l .left) (l .inv .1) (c .if1 .taken)
 
--- src/ranges.rt:54:13
 see-requires : tie.Need-see-requires Inv-loop μ-loop
 see-requires c κs = search needs
 
--- src/ranges.rt:55:12
-is-deck-card-requires : tie.Need-is-deck-card-requires Inv-loop μ-loop
-is-deck-card-requires c κs = search needs
+is-title-requires : tie.Need-is-title-requires Inv-loop μ-loop
+is-title-requires c κs = search needs
 
--- src/ranges.rt:56:13
 returns-2 : tie.Need-returns-2 Inv-loop μ-loop
 returns-2 c =
     let a = c .before .before .before .before .before .before .before .before .args in
     let l = c .before .before .before .before .before .loop in
     let s = c .before .before .see in
     rest-found (a .w .now) (a .decks .now) (a .from) (a .n) (l .at) (l .left) (l .inv .1) (s .result) (s .ensures .1) (c .before .before .before .if1 .left)
-    (c .before .before .before .before .loop-test .taken) (sym (c .before .is-deck-card .ensures) ∙ c .if2 .taken)
+    (c .before .before .before .before .loop-test .taken) (sym (c .before .is-title .ensures) ∙ c .if2 .taken)
 
--- src/ranges.rt:58:14
 add-at : tie.Need-add-at Inv-loop μ-loop
 add-at c = search needs
 
--- src/ranges.rt:58:14
 add-at-2 : tie.Need-add-at-2 Inv-loop μ-loop
 add-at-2 c = search needs
 
--- src/ranges.rt:59:9
 sub-left : tie.Need-sub-left Inv-loop μ-loop
 sub-left c = search needs
 
--- src/ranges.rt:50:5
 loop-less : tie.Need-loop-less Inv-loop μ-loop
 loop-less c = search needs
 
--- src/ranges.rt:50:5
 loop-again : tie.Need-loop-again Inv-loop μ-loop
 loop-again c =
     let a = c .before .before .before .before .before .before .before .before .before .before .args in
@@ -69,10 +59,9 @@ loop-again c =
     let s = c .before .before .before .before .see in (
       omega arith,
       rest-on (a .w .now) (a .decks .now) (a .from) (a .n) (l .at) (l .left) (l .inv .1) (s .result) (s .ensures .1) (c .before .before .before .before .before .if1 .left)
-          (c .before .before .before .before .before .before .loop-test .taken) (sym (c .before .before .before .is-deck-card .ensures) ∙ c .before .before .if2 .left),
+          (c .before .before .before .before .before .before .loop-test .taken) (sym (c .before .before .before .is-title .ensures) ∙ c .before .before .if2 .left),
     )
 
--- src/ranges.rt:44:1
 returns-3 : tie.Need-returns-3 Inv-loop μ-loop
 returns-3 c =
     let a = c .before .before .before .before .args in
@@ -88,7 +77,7 @@ has-title-spec =
     loop-holds
     returns
     see-requires
-    is-deck-card-requires
+    is-title-requires
     returns-2
     add-at
     add-at-2

@@ -22,27 +22,21 @@ use Rattle.run.proofs.marks.mark_between.Reads as mark-between-reads
 use Rattle.run.proofs.ranges.has_title.Reads as has-title-reads
 use Rattle.run.proofs.ranges.yank_marked.Reads as yank-marked-reads
 
--- src/ranges.rt:129:9
 open-ahead-requires : tie.Need-open-ahead-requires
 open-ahead-requires c κs = search needs
 
--- src/ranges.rt:131:32
 sub-has-title : tie.Need-sub-has-title
 sub-has-title c = search needs
 
--- src/ranges.rt:131:32
 add-has-title : tie.Need-add-has-title
 add-has-title c = search needs
 
--- src/ranges.rt:131:8
 has-title-requires : tie.Need-has-title-requires
 has-title-requires c κs = search needs
 
--- src/ranges.rt:132:9
 same-length : tie.Need-same-length
 same-length c = search needs
 
--- src/ranges.rt:132:9
 returns : tie.Need-returns
 returns c =
     let a = c .before .before .before .before .before .before .before .before .before .before .before .before .before .before .args in
@@ -53,23 +47,18 @@ returns c =
     let titles : HasTitle (o .last .0) (a .decks .now) (o .result .hi) (a .l .index - a .f .index + 1) true = subst (HasTitle (o .last .0) (a .decks .now) (o .result .hi) (a .l .index - a .f .index + 1)) (c .if1 .taken) (n .ensures) in
     (tt, found-barred (a .w .now) (a .dir .now) (a .decks .now) (a .flags .now) (a .d) (a .was) (a .f) (a .l) (a .seq) (pre .0) (pre .1 .1 .1 .1 .0) (o .last .0) (o .result) half (o .ensures .0) (o .ensures .1) titles _ _)
 
--- src/ranges.rt:134:9
 mark-between-requires : tie.Need-mark-between-requires
 mark-between-requires c κs = search needs
 
--- src/ranges.rt:136:44
 enum-told : tie.Need-enum-told
 enum-told c = search needs
 
--- src/ranges.rt:137:43
 enum-told-2 : tie.Need-enum-told-2
 enum-told-2 c = search needs
 
--- src/ranges.rt:138:22
 enum-known-m : tie.Need-enum-known-m
 enum-known-m c = search needs
 
--- src/ranges.rt:140:17
 yank-marked-requires : tie.Need-yank-marked-requires
 yank-marked-requires c κs =
     let a = c .before .before .before .before .before .before .before .before .before .before .before .before .before .before .before .before .before .before .before .before .before .before .before .before .before .before .args in
@@ -83,7 +72,6 @@ yank-marked-requires c κs =
     let ordered : Ordered (o .last .0) k = subst (KeepsOrder (o .last .0)) done (m .ensures .0) in
     (same-sane (a .w .now) (m .last .0) (a .d) (pre .0) full, ((ordered .0, omega (arith, ordered .1, half, full)), (pre .1 .0, search needs)))
 
--- src/ranges.rt:140:17
 same-length-2 : tie.Need-same-length-2
 same-length-2 c =
     let o = c .before .before .before .before .before .before .before .before .before .before .before .before .before .before .before .before .before .before .before .before .before .before .before .before .open-ahead in
@@ -91,11 +79,9 @@ same-length-2 c =
     let y = c .before .before .before .before .yank-marked in
     y .kept .0 ∙ m .kept .0 ∙ o .kept .0
 
--- src/ranges.rt:140:17
 same-length-3 : tie.Need-same-length-3
 same-length-3 c = search needs
 
--- src/ranges.rt:140:17
 returns-2 : tie.Need-returns-2
 returns-2 c =
     let a = c .before .before .before .before .before .before .before .before .before .before .before .before .before .before .before .before .before .before .before .before .before .before .before .before .before .before .before .before .before .before .before .args in
@@ -112,7 +98,6 @@ returns-2 c =
     let y = c .before .before .before .before .yank-marked in
     (y .ensures .0, found-yanks (a .w .now) (a .dir .now) (a .decks .now) (a .flags .now) (a .d) (a .was) (a .f) (a .l) (a .seq) (pre .0) (pre .1 .1 .1 .1 .0) (o .last .0) (o .result) half (o .ensures .0) (o .ensures .1) titles (m .last .0) (m .result) full (m .ensures .1) k done ordered (c .before .before .before .before .before .before .before .if2 .taken) (y .last .0) (y .last .1 .1 .0) (y .result) (y .ensures .1))
 
--- src/ranges.rt:142:13
 limited-requires : tie.Need-limited-requires
 limited-requires c κs =
     let a = c .before .before .before .before .before .before .before .before .before .before .before .before .before .before .before .before .before .before .before .before .before .before .before .before .args in
@@ -125,11 +110,9 @@ limited-requires c κs =
     let ordered : Ordered (o .last .0) k = subst (KeepsOrder (o .last .0)) done (m .ensures .0) in
     (omega (arith, ordered .1, half, pre .0 .room), (omega (arith, ordered .0, ordered .1, half, pre .0 .room), (omega (arith, pre .0 .entries), omega (arith, pre .0 .decks))))
 
--- src/ranges.rt:113:1
 same-length-4 : tie.Need-same-length-4
 same-length-4 c = search needs
 
--- src/ranges.rt:113:1
 returns-3 : tie.Need-returns-3
 returns-3 c =
     let a = c .before .before .before .before .before .before .before .before .before .before .before .before .before .before .before .before .before .before .before .before .args in
@@ -142,11 +125,9 @@ returns-3 c =
     let full : length (m .last .0) ≡ length (a .w .now) = m .kept .0 ∙ half in
     (tt, found-missed (a .w .now) (a .dir .now) (a .decks .now) (a .flags .now) (a .d) (a .was) (a .f) (a .l) (a .seq) (pre .0) (pre .1 .1 .1 .1 .0) (o .last .0) (o .result) half (o .ensures .0) (o .ensures .1) titles (m .last .0) (m .result) full (m .ensures .1) (c .enum-told .given .1) _)
 
--- src/ranges.rt:113:1
 same-length-5 : tie.Need-same-length-5
 same-length-5 c = search needs
 
--- src/ranges.rt:113:1
 returns-4 : tie.Need-returns-4
 returns-4 c =
     let a = c .before .before .before .before .before .before .before .before .before .before .before .before .before .before .before .before .before .before .before .before .args in
@@ -159,11 +140,9 @@ returns-4 c =
     let full : length (m .last .0) ≡ length (a .w .now) = m .kept .0 ∙ half in
     (tt, found-over (a .w .now) (a .dir .now) (a .decks .now) (a .flags .now) (a .d) (a .was) (a .f) (a .l) (a .seq) (pre .0) (pre .1 .1 .1 .1 .0) (o .last .0) (o .result) half (o .ensures .0) (o .ensures .1) titles (m .last .0) (m .result) full (m .ensures .1) (c .enum-told2 .given .1) _)
 
--- src/ranges.rt:113:1
 same-length-6 : tie.Need-same-length-6
 same-length-6 c = search needs
 
--- src/ranges.rt:113:1
 returns-5 : tie.Need-returns-5
 returns-5 c =
     let a = c .before .before .before .before .before .before .before .before .before .before .before .before .before .before .before .before .before .before .before .before .before .before .before .before .before .args in

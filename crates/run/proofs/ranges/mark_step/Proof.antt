@@ -10,34 +10,27 @@ use Rattle.run.proofs.ranges.mark_step.Lts as lts
 use Rattle.run.proofs.fixes.seek_card.Reads as seek-card-reads
 use Rattle.run.proofs.ranges.mark_found.Reads as mark-found-reads
 
--- src/ranges.rt:173:9
 returns : tie.Need-returns
 returns c = let a = c .before .before .before .before .before .before .args in (tt, mark-off (a .w .now) (a .dir .now) (a .decks .now) (a .flags .now) (a .d) (a .was) (a .a) (a .b) _ _ (not-taken (a .d .set) (c .if1 .taken)))
 
--- src/ranges.rt:175:9
 seek-card-requires : tie.Need-seek-card-requires
 seek-card-requires c κs = search needs
 
--- src/ranges.rt:177:9
 same-length : tie.Need-same-length
 same-length c = search needs
 
--- src/ranges.rt:177:9
 returns-2 : tie.Need-returns-2
 returns-2 c =
     let a = c .before .before .before .before .before .before .before .before .before .before .before .args in
     let f = c .before .before .before .seek-card in
     (tt, mark-no-first (a .w .now) (a .dir .now) (a .decks .now) (a .flags .now) (a .d) (a .was) (a .a) (a .b) _ _ (not-left (a .d .set) (c .before .before .before .before .before .if1 .left)) (f .result) (f .ensures .1) (c .if2 .taken))
 
--- src/ranges.rt:179:9
 seek-card-requires-2 : tie.Need-seek-card-requires-2
 seek-card-requires-2 c κs = search needs
 
--- src/ranges.rt:181:9
 same-length-2 : tie.Need-same-length-2
 same-length-2 c = search needs
 
--- src/ranges.rt:181:9
 returns-3 : tie.Need-returns-3
 returns-3 c =
     let a = c .before .before .before .before .before .before .before .before .before .before .before .before .before .before .before .before .args in
@@ -45,11 +38,9 @@ returns-3 c =
     let k = c .before .before .before .seek-card2 in
     (tt, mark-no-last (a .w .now) (a .dir .now) (a .decks .now) (a .flags .now) (a .d) (a .was) (a .a) (a .b) _ _ (not-left (a .d .set) (c .before .before .before .before .before .before .before .before .before .before .if1 .left)) (f .result) (f .ensures .1) (k .result) (k .ensures .1) (c .if3 .taken))
 
--- src/ranges.rt:184:9
 same-length-3 : tie.Need-same-length-3
 same-length-3 c = search needs
 
--- src/ranges.rt:184:9
 returns-4 : tie.Need-returns-4
 returns-4 c =
     let a = c .before .before .before .before .before .before .before .before .before .before .before .before .before .before .before .before .before .before .before .args in
@@ -57,21 +48,17 @@ returns-4 c =
     let k = c .before .before .before .before .before .before .seek-card2 in
     (tt, mark-backwards (a .w .now) (a .dir .now) (a .decks .now) (a .flags .now) (a .d) (a .was) (a .a) (a .b) _ _ (not-left (a .d .set) (c .before .before .before .before .before .before .before .before .before .before .before .before .before .if1 .left)) (f .result) (f .ensures .1) (k .result) (k .ensures .1) (c .before .before .before .before .before .before .before .before .if2 .left) (c .before .before .before .if3 .left) (c .if4 .taken))
 
--- src/ranges.rt:186:5
 mark-found-requires : tie.Need-mark-found-requires
 mark-found-requires c κs =
     let pre = c .before .before .before .before .before .before .before .before .before .before .before .before .before .before .before .before .before .before .before .before .before .pre in
     (pre .0, (pre .1 .0, (search needs, (pre .1 .1 .1 .1, (c .before .before .if4 .left, omega (arith, c .before .before .before .before .before .if3 .left, pre .0 .cards))))))
 
--- src/ranges.rt:158:1
 same-length-4 : tie.Need-same-length-4
 same-length-4 c = search needs
 
--- src/ranges.rt:158:1
 same-length-5 : tie.Need-same-length-5
 same-length-5 c = search needs
 
--- src/ranges.rt:158:1
 returns-5 : tie.Need-returns-5
 returns-5 c =
     let a = c .before .before .before .before .before .before .before .before .before .before .before .before .before .before .before .before .before .before .before .before .before .before .before .before .before .before .args in

@@ -12,23 +12,18 @@ use Rattle.run.proofs.gap.open_at.Reads as open-at-reads
 use Rattle.run.proofs.ranges.lead_after.Reads as lead-after-reads
 use Rattle.run.proofs.yanks.resettle.Reads as resettle-reads
 
--- src/ranges.rt:90:9
 lead-after-requires : tie.Need-lead-after-requires
 lead-after-requires c κs = search needs
 
--- src/ranges.rt:91:9
 open-at-requires : tie.Need-open-at-requires
 open-at-requires c κs = search needs
 
--- src/ranges.rt:92:9
 limited-requires : tie.Need-limited-requires
 limited-requires c κs = search needs
 
--- src/ranges.rt:104:23
 enum-known-r : tie.Need-enum-known-r
 enum-known-r c = search needs
 
--- src/ranges.rt:105:13
 resettle-requires : tie.Need-resettle-requires
 resettle-requires c κs =
     let a = c .before .before .before .before .before .before .before .before .before .before .before .before .before .before .args in
@@ -39,19 +34,15 @@ resettle-requires c κs =
     let e = c .before .before .before .r .given .0 .0 in
     (yank-sane (a .w .now) (o .last .0) (a .d) (o .result) e (pre .0) same (o .ensures .0) q, (yank-lead (a .d) (o .result) e q, (pre .1 .1 .0, search needs)))
 
--- src/ranges.rt:108:26
 enum-known-r-2 : tie.Need-enum-known-r-2
 enum-known-r-2 c = search needs
 
--- src/ranges.rt:85:1
 same-length : tie.Need-same-length
 same-length c = search needs
 
--- src/ranges.rt:85:1
 same-length-2 : tie.Need-same-length-2
 same-length-2 c = search needs
 
--- src/ranges.rt:85:1
 returns : tie.Need-returns
 returns c =
     let a = c .before .before .before .before .before .before .before .before .before .before .before .before .before .before .before .before .before .before .before .args in
@@ -67,11 +58,9 @@ returns c =
       yank-went (a .w .now) (a .dir .now) (a .d) (a .h) (pre .0 .room) (n .result) (n .ensures .1) (o .last .0) (o .result) (o .ensures .1) half (o .ensures .0) e q _ _ same (z .ensures),
     )
 
--- src/ranges.rt:85:1
 same-length-3 : tie.Need-same-length-3
 same-length-3 c = search needs
 
--- src/ranges.rt:85:1
 returns-2 : tie.Need-returns-2
 returns-2 c =
     let a = c .before .before .before .before .before .before .before .before .before .before .before .before .args in

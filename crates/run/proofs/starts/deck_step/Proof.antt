@@ -18,54 +18,42 @@ use Rattle.run.proofs.gap.open_ahead.Reads as open-ahead-reads
 use Rattle.run.proofs.starts.entry_of.Reads as entry-of-reads
 use Rattle.run.proofs.texts.put_line.Reads as put-line-reads
 
--- src/starts.rt:78:9
 returns : tie.Need-returns
 returns c = let a = c .before .before .before .before .before .before .args in (tt, deck-reserved (a .w .now) (a .dir .now) (a .names .now) (a .decks .now) (a .d) (a .word) (a .line .now) _ _ _ _ (c .if1 .taken))
 
--- src/starts.rt:81:13
 add-k : tie.Need-add-k
 add-k c = search needs
 
--- src/starts.rt:82:12
 entry-of-requires : tie.Need-entry-of-requires
 entry-of-requires c κs = search needs
 
--- src/starts.rt:83:9
 same-length : tie.Need-same-length
 same-length c = search needs
 
--- src/starts.rt:83:9
 returns-2 : tie.Need-returns-2
 returns-2 c =
     let a = c .before .before .before .before .before .before .before .before .before .before .args in
     let e = c .before .entry-of .ensures .1 in
     (tt, deck-twice (a .w .now) (a .dir .now) (a .names .now) (a .decks .now) (a .d) (a .word) (a .line .now) _ _ _ _ (omega (arith, e, c .if2 .taken)))
 
--- src/starts.rt:87:9
 open-ahead-requires : tie.Need-open-ahead-requires
 open-ahead-requires c κs = search needs
 
--- src/starts.rt:88:38
 add-put-line : tie.Need-add-put-line
 add-put-line c = search needs
 
--- src/starts.rt:88:9
 put-line-requires : tie.Need-put-line-requires
 put-line-requires c κs = search needs
 
--- src/starts.rt:89:5
 mul-dir : tie.Need-mul-dir
 mul-dir c = search needs
 
--- src/starts.rt:89:5
 slice-write-dir : tie.Need-slice-write-dir
 slice-write-dir c = search needs
 
--- src/starts.rt:90:5
 mul-names : tie.Need-mul-names
 mul-names c = search needs
 
--- src/starts.rt:90:5
 slice-write-names : tie.Need-slice-write-names
 slice-write-names c =
     let pre = c .before .before .before .before .before .before .before .before .before .before .before .before .before .before .before .before .before .before .before .pre in
@@ -74,15 +62,12 @@ slice-write-names c =
     let cards = pre .0 .cards in
     omega (arith, pre .1 .0, pre .1 .1 .0, pre .1 .1 .1)
 
--- src/starts.rt:91:11
 add-decks : tie.Need-add-decks
 add-decks c = search needs
 
--- src/starts.rt:91:5
 mul-decks : tie.Need-mul-decks
 mul-decks c = search needs
 
--- src/starts.rt:91:5
 slice-write-decks : tie.Need-slice-write-decks
 slice-write-decks c =
     let pre = c .before .before .before .before .before .before .before .before .before .before .before .before .before .before .before .before .before .before .before .pre in
@@ -91,11 +76,9 @@ slice-write-decks c =
     let cards = pre .0 .cards in
     omega (arith, pre .1 .0, pre .1 .1 .0, pre .1 .1 .1)
 
--- src/starts.rt:94:18
 add-t16 : tie.Need-add-t16
 add-t16 c = search needs
 
--- src/starts.rt:96:16
 add-t27 : tie.Need-add-t27
 add-t27 c =
     let pre = c .before .before .before .before .before .before .before .before .before .before .before .before .before .before .before .before .before .before .before .before .pre in
@@ -104,7 +87,6 @@ add-t27 c =
     let cards = pre .0 .cards in
     omega (arith, pre .1 .0, pre .1 .1 .0, pre .1 .1 .1)
 
--- src/starts.rt:92:5
 limited-requires : tie.Need-limited-requires
 limited-requires c κs =
     let pre = c .before .before .before .before .before .before .before .before .before .before .before .before .before .before .before .before .before .before .before .before .pre in
@@ -114,23 +96,18 @@ limited-requires c κs =
     let same : length (o .last .0) ≡ length (a .w .now) = search needs in
     (omega (arith, p .0, pre .0 .room), (p .1, (omega (arith, pre .0 .entries), omega (arith, pre .0 .decks))))
 
--- src/starts.rt:64:1
 same-length-2 : tie.Need-same-length-2
 same-length-2 c = search needs
 
--- src/starts.rt:64:1
 same-length-3 : tie.Need-same-length-3
 same-length-3 c = search needs
 
--- src/starts.rt:64:1
 same-length-4 : tie.Need-same-length-4
 same-length-4 c = search needs
 
--- src/starts.rt:64:1
 same-length-5 : tie.Need-same-length-5
 same-length-5 c = search needs
 
--- src/starts.rt:64:1
 returns-3 : tie.Need-returns-3
 returns-3 c =
     let a = c .before .before .before .before .before .before .before .before .before .before .before .before .before .before .before .before .before .before .before .before .before .args in

@@ -16,46 +16,37 @@ Inv-loop dir n w i₀ i = (i ≤ n) × (entryOf (take n dir) w ≡ entryFrom w (
 abbrev μ-loop : tie.MeasureT-loop
 μ-loop dir n w i₀ i = n - i
 
--- src/starts.rt:23:5
 loop-holds : tie.Need-loop-holds Inv-loop μ-loop
 unfolding entryOf
 loop-holds c = (search needs, refl)
 
--- src/starts.rt:24:12
 mul-if1 : tie.Need-mul-if1 Inv-loop μ-loop
 mul-if1 c = search needs
 
--- src/starts.rt:24:12
 shared-slice-read-if1 : tie.Need-shared-slice-read-if1 Inv-loop μ-loop
 shared-slice-read-if1 c = search needs
 
--- src/starts.rt:25:20
 add-result : tie.Need-add-result Inv-loop μ-loop
 add-result c = search needs
 
--- src/starts.rt:25:13
 returns : tie.Need-returns Inv-loop μ-loop
 returns c =
     let l = c .before .before .before .loop in
     let a = c .before .before .before .before .args in
     (search needs, sym (l .inv .1 ∙ entry-here (a .w) (a .dir .now) (a .n) (l .i) (search needs) (search needs) (c .if1 .taken)))
 
--- src/starts.rt:27:9
 add-i : tie.Need-add-i Inv-loop μ-loop
 add-i c = search needs
 
--- src/starts.rt:23:5
 loop-less : tie.Need-loop-less Inv-loop μ-loop
 loop-less c = search needs
 
--- src/starts.rt:23:5
 loop-again : tie.Need-loop-again Inv-loop μ-loop
 loop-again c =
     let l = c .before .before .before .loop in
     let a = c .before .before .before .before .args in
     (search needs, l .inv .1 ∙ entry-on (a .w) (a .dir .now) (a .n) (l .i) (search needs) (search needs) (c .if1 .left))
 
--- src/starts.rt:17:1
 returns-2 : tie.Need-returns-2 Inv-loop μ-loop
 returns-2 c =
     let l = c .before .loop in

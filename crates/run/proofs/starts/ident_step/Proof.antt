@@ -14,46 +14,36 @@ use Rattle.run.proofs.starts.ident_step.Lts as lts
 use Rattle.run.proofs.desk.limited.Reads as limited-reads
 use Rattle.run.proofs.starts.entry_of.Reads as entry-of-reads
 
--- src/starts.rt:39:9
 returns : tie.Need-returns
 returns c = let a = c .before .before .args in ((λ w s. tt), ident-reserved (a .dir .now) (a .d) (a .word) _ (c .if1 .taken))
 
--- src/starts.rt:42:12
 entry-of-requires : tie.Need-entry-of-requires
 entry-of-requires c κs = search needs
 
--- src/starts.rt:43:9
 same-length : tie.Need-same-length
 same-length c = search needs
 
--- src/starts.rt:43:9
 returns-2 : tie.Need-returns-2
 returns-2 c =
     let a = c .before .before .before .before .before .args in
     let e = c .before .entry-of .ensures .1 in
     ((λ w s. tt), ident-twice (a .dir .now) (a .d) (a .word) _ (omega (arith, e, c .if2 .taken)))
 
--- src/starts.rt:45:5
 mul-dir : tie.Need-mul-dir
 mul-dir c = search needs
 
--- src/starts.rt:45:5
 slice-write-dir : tie.Need-slice-write-dir
 slice-write-dir c = search needs
 
--- src/starts.rt:49:18
 add-t8 : tie.Need-add-t8
 add-t8 c = search needs
 
--- src/starts.rt:47:5
 limited-requires : tie.Need-limited-requires
 limited-requires c κs = search needs
 
--- src/starts.rt:33:1
 same-length-2 : tie.Need-same-length-2
 same-length-2 c = search needs
 
--- src/starts.rt:33:1
 returns-3 : tie.Need-returns-3
 returns-3 c =
     let a = c .before .before .before .before .before .before .before .args in

@@ -11,15 +11,12 @@ use Rattle.run.proofs.texts.put_line.Lts as lts
 use Rattle.run.proofs.put.put_card.Reads as put-card-reads
 use Rattle.words.proofs.compress.Reads as compress-reads
 
--- src/texts.rt:23:9
 compress-requires : tie.Need-compress-requires
 compress-requires c κs = search needs
 
--- src/texts.rt:25:27
 enum-known-c : tie.Need-enum-known-c
 enum-known-c c = search needs
 
--- src/texts.rt:25:48
 slice-aggregate-put-card : tie.Need-slice-aggregate-put-card
 slice-aggregate-put-card c =
     let k = c .before .before .before .c .given in
@@ -27,7 +24,6 @@ slice-aggregate-put-card c =
     let a = c .before .before .before .before .before .before .before .before .before .args in
     sym (words-space (a .line .now) _ _ (k .0 .0) (sym (m .ensures .0) ∙ k .1) refl (m .ensures .1))
 
--- src/texts.rt:25:33
 put-card-requires : tie.Need-put-card-requires
 put-card-requires c κs =
     let k = c .before .before .before .c .given in
@@ -37,19 +33,15 @@ put-card-requires c κs =
     let long : _ = words-space (a .line .now) _ _ (k .0 .0) (sym (m .ensures .0) ∙ k .1) refl (m .ensures .1) in
     search needs
 
--- src/texts.rt:26:32
 enum-told : tie.Need-enum-told
 enum-told c = search needs
 
--- src/texts.rt:27:29
 enum-told-2 : tie.Need-enum-told-2
 enum-told-2 c = search needs
 
--- src/texts.rt:17:1
 same-length : tie.Need-same-length
 same-length c = search needs
 
--- src/texts.rt:17:1
 returns : tie.Need-returns
 returns c =
     let k = c .before .before .before .before .before .before .c .given in
@@ -57,13 +49,11 @@ returns c =
     let a = c .before .before .before .before .before .before .before .before .before .before .before .before .args in
     (search needs, line-put (a .w .now) (a .g) (a .line .now) _ _ (k .0 .0) (a .seq) (a .n) _ _ (sym (m .ensures .0) ∙ k .1) (m .ensures .1) (c .before .before .put-card .ensures .1))
 
--- src/texts.rt:17:1
 returns-2 : tie.Need-returns-2
 returns-2 c =
     let a = c .before .before .before .before .before .before .args in
     (search needs, line-not (a .w .now) (a .g) (a .line .now) _ (a .seq) (a .n) _ _ (sym (c .before .before .compress .ensures .0) ∙ c .enum-told .given .1) (λ k e. let z : _≡_ {A = ℕ} 0 1 = cc in omega arith))
 
--- src/texts.rt:17:1
 returns-3 : tie.Need-returns-3
 returns-3 c =
     let a = c .before .before .before .before .before .before .args in

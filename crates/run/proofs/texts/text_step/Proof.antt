@@ -15,47 +15,36 @@ use Rattle.run.proofs.texts.text_step.Lts as lts
 use Rattle.run.proofs.desk.limited.Reads as limited-reads
 use Rattle.run.proofs.texts.put_line.Reads as put-line-reads
 
--- src/texts.rt:40:45
 enum-told : tie.Need-enum-told
 enum-told c = search needs
 
--- src/texts.rt:41:43
 enum-told-2 : tie.Need-enum-told-2
 enum-told-2 c = search needs
 
--- src/texts.rt:43:30
 enum-told-3 : tie.Need-enum-told-3
 enum-told-3 c = search needs
 
--- src/texts.rt:43:17
 put-line-requires : tie.Need-put-line-requires
 put-line-requires c κs = search needs
 
--- src/texts.rt:48:24
 add-t13 : tie.Need-add-t13
 add-t13 c = search needs
 
--- src/texts.rt:52:23
 add-t12 : tie.Need-add-t12
 add-t12 c = search needs
 
--- src/texts.rt:44:13
 limited-requires : tie.Need-limited-requires
 limited-requires c κs = search needs
 
--- src/texts.rt:32:1
 returns : tie.Need-returns
 returns c = let a = c .before .before .before .before .before .args in (tt, text-off (a .w .now) (a .d) (a .line .now) _ (c .enum-told .given .1))
 
--- src/texts.rt:32:1
 returns-2 : tie.Need-returns-2
 returns-2 c = let a = c .before .before .before .before .before .args in (tt, text-barred (a .w .now) (a .d) (a .line .now) _ (c .enum-told2 .given .1))
 
--- src/texts.rt:32:1
 same-length : tie.Need-same-length
 same-length c = search needs
 
--- src/texts.rt:32:1
 returns-3 : tie.Need-returns-3
 returns-3 c =
     let a = c .before .before .before .before .before .before .before .before .before .before .before .before .args in
