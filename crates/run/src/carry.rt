@@ -14,9 +14,6 @@ use crate::desk::AHEAD;
 use crate::desk::Desk;
 use crate::desk::ROOM;
 
-// An image's first word: CHECK, the character set 4, Y and the master character.
-const HEADER: u64 = 0o03100503130004003147;
-
 // The k words from `first` on go to the place `at`.
 pub(crate) fn copy_words(out: &mut [u64], at: usize, from: &[u64], first: usize, k: usize)
     requires { ⌜ (first + k ≤ length (now from)) × (at + k ≤ length (now out)) ⌝ }
@@ -34,7 +31,7 @@ fn write_head(space: &mut [u64], n: usize, k: usize)
     requires { ⌜ (1 < length (now space)) × ((n ≤ 1023) × (k ≤ 255)) ⌝ }
     ensures { λ _. ⌜ now (space .exit) ≡ header ∷ (n * 2 ^ 18 + k) ∷ drop 2 (now (space .entry)) ⌝ }
 {
-    space[0] = HEADER;
+    space[0] = library::header_word();
     space[1] = n as u64 * FIELD + k as u64;
 }
 
