@@ -8,7 +8,7 @@
  *
  * What a function works on beside its slices lies on the caller's stack. It needs, at most (the figures are in docs/MEASURES.md):
  *     galdwist_run                                                         about 2 MiB
- *     galdwist_compile, galdwist_check, galdwist_directory, galdwist_card  about 256 KiB
+ *     galdwist_compile, galdwist_check, galdwist_directory, galdwist_card  about 1 MiB
  *     galdwist_pack, galdwist_unpack, galdwist_fresh                       about 16 KiB
  * The first thread of a program has 8 MiB on Linux; a thread or a task of an emulator may have less.
  *
@@ -60,7 +60,8 @@ uint64_t galdwist_fresh(uint64_t *space, size_t room, uint64_t *value);
 uint64_t galdwist_directory(const uint64_t *image, size_t n, uint8_t *rows, size_t room, uint64_t *value);
 
 /* A card's name, as NAME.NUMBER, from its owner's number in the directory and its sequence number. 1 to 10 where the image is no library;
- * 53 where it does not fit. `value`: bytes written; the word at fault for 1 to 10; 0 for 53. keeper/Keeper.antt. */
+ * 53 where it does not fit. `value`: bytes written; the word at fault for 1 to 10; 0 for 53. For an owner that the directory lacks, or a purged
+ * one, the name is empty. keeper/Keeper.antt: naming, showInto, toldNumber, toldValue. */
 uint64_t galdwist_card(const uint64_t *image, size_t n, uint64_t owner, uint64_t seq, uint8_t *out, size_t room, uint64_t *value);
 
 #endif

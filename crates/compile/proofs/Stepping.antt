@@ -1,12 +1,13 @@
 -- The walk as it is carried out, card by card. Assumes nothing.
 --   found-is                                              a name's deck is that of its row
 --   visit-passed, visit-text, visit-stopped, visit-opened one card
+--   visit-counted                                         one that is only counted
 --   run-past, run-end, run-on, run-halt                   the cards from a place up to another
 use Prim.Native.Nat.{ℕ, zero, suc, _+_, _-_, _≤_, _<_}
 use native.Mathlib.Omega.{arith}
 use native.Mathlib.Numerals.{add-one}
 use mathlib.Core.Path.{_≡_, refl, sym, ap, _∙_}
-use mathlib.Core.Bool.{Bool, true, false}
+use mathlib.Core.Bool.{Bool, true, false, _&&_, not}
 use mathlib.Core.List.{List, [], _∷_}
 use borrow.Author.Tests.{ltb-true, eqb-false, ne-eqb}
 use lib.Dec.{eqb, ltb}
@@ -17,7 +18,7 @@ use Rattle.lines.specs.declared.Call.{Call}
 use Rattle.lines.specs.declared.Call.the-variants.{Not, Of, Malformed}
 use Rattle.library.specs.Library.{reserved}
 use Rattle.library.specs.declared.Seen.{Seen}
-use Rattle.image.specs.Places.{seenAt, lineIn}
+use Rattle.image.specs.Places.{seenAt, lineIn, starAt}
 use Rattle.compile.specs.View.{Shown, DeckView}
 use Rattle.compile.specs.Walk.{Found, missing, notCommon, common, lookIn, lookUp}
 use Rattle.compile.specs.TableView.{shown, shownOf, consIf, shownIn, tableView}
@@ -30,6 +31,8 @@ use Rattle.compile.specs.declared.calls.Place.the-variants.{Missing, Nor
 use Rattle.compile.specs.declared.calls.Asked.{Asked}
 use Rattle.compile.specs.declared.calls.Asked.the-variants.{Text, Stopped, Opened}
 use Rattle.compile.specs.Steps.{State, state, haltedAt, putOf, rowIn, findRow, openAt, askedBy, askedOf, thenOn, openOf, stepOf, runOf, calleeAt, runAt, visitOf}
+use Rattle.lines.proofs.Calling.{call-starless}
+use Rattle.image.proofs.Starred.{line-starless}
 use Rattle.compile.proofs.Showing.{shown-more, shown-end, shown-past}
 
 -- A NAME'S DECK
@@ -125,6 +128,34 @@ module _ (w : Bool) (ws rows : List ℕ) (d : ℕ) (s : Seen) (l n : ℕ) (o : L
 
   pub visit-opened : (f t : ℕ) → k ≡ Opened f t → runAt w (tableView ws rows) (d - 1) (shownIn ws f t) l (n + 1) o ≡ visitOf w (tableView ws rows) d (s .active) (shownOf ws s) l n o
   visit-opened f t e = sym (seen-acts (Opened f t) e)
+
+-- a line that begins with no star is text, and where it is not written it need not be known
+put-unseen : (s : Seen) (line line′ : List ℕ) (name name′ l n : ℕ) (o : List ℕ) → putOf false (shown line name s) l n o ≡ putOf false (shown line′ name′ s) l n o
+unfolding putOf
+put-unseen s line line′ name name′ l n o = refl
+
+module _ (w : Bool) (ws rows : List ℕ) (d : ℕ) (s : Seen) (l n : ℕ) (o : List ℕ) (active : s .active ≡ true)
+    (b : Bool) (is : b ≡ (not w && not (starAt ws (s .text)))) (only : b ≡ true) where
+  both : (x y : Bool) → b ≡ (not x && not y) → (x ≡ false) × (y ≡ false)
+  both true y e = absurd (let z : _≡_ {A = ℕ} 0 1 = cc in omega arith)
+  both false true e = absurd (let z : _≡_ {A = ℕ} 0 1 = cc in omega arith)
+  both false false e = (refl, refl)
+
+  is-text : Text ≡ askedOf rows (lineIn ws (s .text) (s .next)) d n
+  unfolding askedOf
+  is-text =
+      let none = line-starless ws (s .text) (s .next) (both w (starAt ws (s .text)) is .1) in
+      ap (λ (k : Call). askedBy rows k d n) (call-starless (lineIn ws (s .text) (s .next)) none)
+
+  pub visit-counted : (line : List ℕ) (name : ℕ) → putOf w (shown line name s) l n o ≡ visitOf w (tableView ws rows) d (s .active) (shownOf ws s) l n o
+  visit-counted line name =
+      let u : w ≡ false = both w (starAt ws (s .text)) is .0 in
+      let said : List ℕ = lineIn ws (s .text) (s .next) in
+      let named : ℕ = getD ws (s .owner + 1) 0 in
+      ap (λ (v : Bool). putOf v (shown line name s) l n o) u
+      ∙ put-unseen s line said name named l n o
+      ∙ ap (λ (v : Bool). putOf v (shown said named s) l n o) (sym u)
+      ∙ visit-text w ws rows d s l n o active said refl Text is-text refl named refl
 
 -- a deck is opened with levels and calls left
 pub opened-some : (rows line : List ℕ) (d n f t : ℕ) → askedOf rows line d n ≡ Opened f t → (0 < d) × (n < 4096)

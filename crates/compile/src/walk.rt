@@ -1,7 +1,9 @@
 // The walk over decks and calls (01, "The compile file"; rows 40 to 44).
 ghost use mathlib.Core.Path.{_≡_};
 ghost use Prim.Native.Nat.{_+_, _<_};
+ghost use mathlib.Core.Bool.{_&&_, not};
 ghost use lib.ListN.{length};
+ghost use Rattle.image.specs.Places.{starAt};
 ghost use Rattle.compile.specs.View.{Shown};
 ghost use Rattle.compile.specs.TableView.{shown, shownOf, shownIn, rowView, tableView};
 ghost use Rattle.compile.specs.Steps.{state, putOf, visitOf, runAt, deckOf, decksOf};
@@ -18,6 +20,7 @@ use image::ROW;
 use image::TO;
 use image::line_of;
 use image::see;
+use image::star_at;
 use image::word_at;
 use library::Seen;
 
@@ -54,6 +57,16 @@ fn put(
     Walked::On(lines + 1, calls)
 }
 
+// Whether a card is a line to count and nothing else: it is no CALL, as its line does not begin with *.
+fn only_counted(image: &[u64], c: Seen, writes: bool) -> bool
+    ensures { λ r. ⌜ r ≡ (not writes && not (starAt (now (image .entry)) (c .text))) ⌝ }
+{
+    if writes {
+        return false;
+    }
+    !star_at(image, c.text)
+}
+
 // One card of a deck, with so many levels left.
 fn step(
     image: &[u64],
@@ -70,6 +83,9 @@ fn step(
 {
     if !c.active {
         return Walked::On(lines, calls);
+    }
+    if only_counted(image, c, writes) {
+        return put(b"", 0, c, writes, out, lines, calls);
     }
     let mut line = [0u8; COLUMNS];
     let n = line_of(image, c.text, c.next, &mut line);

@@ -1,4 +1,5 @@
 pub mod Standing
+pub mod Starred
 pub mod Rows
 pub mod Writing
 pub mod Marking

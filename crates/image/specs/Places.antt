@@ -1,6 +1,6 @@
 -- What stands in an image, by places, whatever its words are.
 --   a card         textAt, nextAt, seenAt
---   its line       textOf, lineIn, lineInto
+--   its line       textOf, lineIn, lineInto, starAt
 --   a deck card    titleOf, titleIn
 --   cards in order placesIn
 --   the decks      deckEnd, rowsIn, tableOf, tableInto, Tables
@@ -51,6 +51,10 @@ lineIn ws from to = if leb to (length ws) then textOf (take (to - from) (drop fr
 -- in the first columns of a line, the others staying
 unfoldable pub lineInto : List ℕ → ℕ → ℕ → List ℕ → List ℕ
 lineInto ws from to line = lineIn ws from to ++ drop (length (lineIn ws from to)) line
+
+-- whether the word at a place has the code of * first: a line from there may begin with * only then
+abbrev pub starAt : List ℕ → ℕ → Bool
+starAt ws at = eqb (getD ws at 0 / 2 ^ 54 % 2 ^ 6) 0o47
 
 -- A DECK CARD
 abbrev pub named : Bool → ℕ → Title

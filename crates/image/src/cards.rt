@@ -4,7 +4,7 @@ ghost use Prim.Native.Nat.{_+_, _-_, _≤_, _<_};
 ghost use lib.Dec.{leb};
 ghost use lib.ListN.{length, getD};
 ghost use Rattle.words.specs.Base.{if_then_else_};
-ghost use Rattle.image.specs.Places.{textAt, seenAt, lineIn, lineInto};
+ghost use Rattle.image.specs.Places.{textAt, seenAt, starAt, lineIn, lineInto};
 use library::Seen;
 use words::Expanded;
 
@@ -22,6 +22,12 @@ const SEQUENCE: u64 = 0o1000000;
 const FIELD: u64 = 0o1000000;
 // of a byte, 15-00 directory number
 const NUMBER: u64 = 0o200000;
+// of a text's word, the first of ten codes
+const FIRST: u64 = 0o1000000000000000000;
+
+const CODE: u64 = 0o100;
+// the code of *
+const STAR: u64 = 0o47;
 
 // The word at a place, 0 past the end.
 pub fn word_at(image: &[u64], at: usize) -> u64
@@ -67,6 +73,13 @@ pub fn see(image: &[u64], at: usize) -> Seen
         seq: w / SEQUENCE % FIELD,
         active: w / ACTIVE % 2 == 1,
     }
+}
+
+// Whether a line that starts at a place may begin with *: one that is neither a directive nor a CALL need not be expanded to see that.
+pub fn star_at(image: &[u64], at: usize) -> bool
+    ensures { λ r. ⌜ r ≡ starAt (now (image .entry)) at ⌝ }
+{
+    word_at(image, at) / FIRST % CODE == STAR
 }
 
 // The line that the words from `from` up to `to` say: how many columns it has.

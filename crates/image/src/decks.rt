@@ -9,6 +9,7 @@ ghost use Rattle.image.specs.Places.{titleOf, titleIn, isTitle, kindNumb
 use crate::cards::COLUMNS;
 use crate::cards::line_of;
 use crate::cards::see;
+use crate::cards::star_at;
 use crate::cards::word_at;
 use library::DeckLine;
 use library::Seen;
@@ -56,6 +57,9 @@ fn title_line(line: &[u8]) -> Title
 fn title_of(image: &[u64], c: Seen) -> Title
     ensures { λ r. ⌜ r ≡ titleIn (now (image .entry)) c ⌝ }
 {
+    if !star_at(image, c.text) {
+        return Title::Not;
+    }
     let mut line = [0u8; COLUMNS];
     let n = line_of(image, c.text, c.next, &mut line);
     title_line(&line[..n])

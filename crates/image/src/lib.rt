@@ -8,6 +8,7 @@ mod marks;
 pub use cards::COLUMNS;
 pub use cards::line_of;
 pub use cards::see;
+pub use cards::star_at;
 pub use cards::word_at;
 pub use decks::COMMON;
 pub use decks::FROM;

@@ -43,6 +43,7 @@ pub mod Showing
 pub mod Telling
 pub mod Weighing
 pub mod Decking
+pub mod KeyTree
 pub mod Keying
 pub mod Naming
 pub mod Passing

@@ -11,4 +11,5 @@ pub mod Alike
 pub mod Walks
 pub mod Found
 pub mod WordForm
+pub mod KeyTree
 pub mod Rows

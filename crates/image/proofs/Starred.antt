@@ -1,0 +1,78 @@
+-- Which lines may begin with a star, by their first word alone. Assumes nothing.
+--   line-starless     a line whose first word has another code first does not
+--   title-starless    nor is it a deck card's
+use Prim.Native.Nat.{ℕ, zero, suc, _+_, _-_, _/_, _%_, _^_, _<_}
+use native.Mathlib.Omega.{arith}
+use mathlib.Core.Path.{_≡_, refl, sym, ap, _∙_}
+use mathlib.Core.Bool.{Bool, true, false}
+use mathlib.Core.List.{List, [], _∷_, map}
+use borrow.Author.Tests.{eqb-false, ne-eqb}
+use lib.Dec.{eqb, leb}
+use lib.ListN.{length, getD, take, drop}
+use Rattle.words.specs.Base.{if_then_else_}
+use Rattle.words.specs.Display.{codeOf, letter, star}
+use Rattle.words.specs.Text.{lowCodes, allCodes, pair, columnsOf, says, isText}
+use Rattle.words.proofs.Charted.{code-letter}
+use Rattle.words.proofs.Reading.{word-at}
+use Rattle.lines.specs.Directive.{starts, kindOfLine}
+use Rattle.library.specs.Library.{deckLine}
+use Rattle.library.specs.declared.Seen.{Seen}
+use Rattle.image.specs.declared.decks.Title.the-variants.{Not}
+use Rattle.image.specs.Places.{textOf, lineIn, starAt, titleIn}
+
+-- THE FIRST COLUMN of what codes stand for
+star-code : codeOf star ≡ 0o47
+unfolding codeOf
+star-code = refl
+
+letter-starless : (c : ℕ) → c < 64 → (c ≡ 0o47 → ⊥) → eqb star (letter c) ≡ false
+letter-starless c h ne = ne-eqb star (letter c) (λ e. ne (sym (code-letter c h) ∙ ap codeOf (sym e) ∙ star-code))
+
+pair-starless : (y : ℕ) (r : List ℕ) → starts star (map letter (pair y r)) ≡ false
+unfolding letter
+pair-starless zero r = refl
+pair-starless (suc y) r = let e : y + 3 ≡ suc (y + 2) = omega arith in rw e
+
+columns-starless : (cs : List ℕ) → getD cs 0 0 < 64 → (getD cs 0 0 ≡ 0o47 → ⊥) → starts star (map letter (columnsOf cs)) ≡ false
+columns-starless [] h ne = refl
+columns-starless (zero ∷ []) h ne = refl
+columns-starless (zero ∷ zero ∷ r) h ne = refl
+columns-starless (zero ∷ suc y ∷ r) h ne = pair-starless y (columnsOf r)
+columns-starless (suc c ∷ r) h ne = letter-starless (suc c) h ne
+
+-- of what words say
+part-starless : (n : ℕ) (ws : List ℕ) → (getD ws 0 0 / 2 ^ 54 % 2 ^ 6 ≡ 0o47 → ⊥) → starts star (says (take n ws)) ≡ false
+unfolding says
+part-starless zero ws ne = refl
+part-starless (suc n) [] ne = refl
+part-starless (suc n) (w ∷ ws) ne =
+    let first : getD (lowCodes 10 w (allCodes (take n ws))) 0 0 ≡ w / 64 ^ 9 % 64 = word-at w 0 (allCodes (take n ws)) (omega arith) in
+    columns-starless (lowCodes 10 w (allCodes (take n ws))) (omega (arith, first)) (λ e. ne (sym first ∙ e))
+
+text-starless : (ws : List ℕ) → starts star (says ws) ≡ false → starts star (textOf ws) ≡ false
+text-starless ws none = go (isText ws)
+  where
+    go : (b : Bool) → starts star (if b then says ws else []) ≡ false
+    go true = none
+    go false = refl
+
+drop-first : (ws : List ℕ) (n : ℕ) → getD (drop n ws) 0 0 ≡ getD ws n 0
+drop-first ws zero = refl
+drop-first [] (suc n) = refl
+drop-first (w ∷ ws) (suc n) = drop-first ws n
+
+pub line-starless : (ws : List ℕ) (from to : ℕ) → starAt ws from ≡ false → starts star (lineIn ws from to) ≡ false
+unfolding lineIn
+line-starless ws from to none = go (leb to (length ws))
+  where
+    other : getD (drop from ws) 0 0 / 2 ^ 54 % 2 ^ 6 ≡ 0o47 → ⊥
+    other = rw (drop-first ws from) (eqb-false (getD ws from 0 / 2 ^ 54 % 2 ^ 6) 0o47 none)
+
+    go : (b : Bool) → starts star (if b then textOf (take (to - from) (drop from ws)) else []) ≡ false
+    go true = text-starless (take (to - from) (drop from ws)) (part-starless (to - from) (drop from ws) other)
+    go false = refl
+
+-- A DECK CARD
+pub title-starless : (ws : List ℕ) (c : Seen) → starAt ws (c .text) ≡ false → Not ≡ titleIn ws c
+unfolding titleIn deckLine kindOfLine
+title-starless ws c none = rw (line-starless ws (c .text) (c .next) none)
