@@ -5,7 +5,6 @@
 --   further-..     the further history words from a place on
 --   words-..       a card with so many words ahead of its text
 --   form-..        row 5 of the card at a place
---   is-text, no-text   row 6
 use Prim.Native.Nat.{ℕ, zero, suc, _+_, _-_, _/_, _%_, _^_, _≤_, _<_}
 use native.Mathlib.Omega.{arith}
 use native.Mathlib.Numerals.{add-one}
@@ -208,21 +207,3 @@ module _ (directory ws : List ℕ) (at : ℕ) where
   form-some s k e =
       let p : placeFrom isLastWord 1 (drop at ws) ≡ some k = found-some (placeFrom isLastWord 1 (drop at ws)) k e in
       ap (formOf directory (drop at ws)) p ∙ form-words directory (drop at ws) k (λ i. subst (λ (v : ℕ). v < 2 ^ 60) (sym (getD-drop at ws i 0)) (s .words (at + i))) p
-
--- row 6
-module _ (ws : List ℕ) where
-  pub is-text : (n : ℕ) → expanding ws ≡ Columns n → isText ws ≡ true
-  unfolding expanding
-  is-text n e = go (isText ws) e
-    where
-      go : (z : Bool) → (if z then Columns (length (says ws)) else NoText) ≡ Columns n → z ≡ true
-      go true e = refl
-      go false e = absurd (let z : _≡_ {A = ℕ} 0 1 = cc in omega arith)
-
-  pub no-text : expanding ws ≡ NoText → isText ws ≡ false
-  unfolding expanding
-  no-text e = go (isText ws) e
-    where
-      go : (z : Bool) → (if z then Columns (length (says ws)) else NoText) ≡ NoText → z ≡ false
-      go true e = absurd (let z : _≡_ {A = ℕ} 0 1 = cc in omega arith)
-      go false e = refl

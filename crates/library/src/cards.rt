@@ -4,7 +4,6 @@ ghost use mathlib.Core.Bool.{true};
 ghost use Prim.Native.Nat.{_+_, _-_, _/_, _%_, _^_, _≤_, _<_};
 ghost use lib.ListN.{length, drop};
 ghost use Rattle.words.specs.Base.{allOf, placeFrom};
-ghost use Rattle.words.specs.Text.{isText};
 ghost use Rattle.library.specs.Check.{isLastWord};
 ghost use Rattle.library.specs.Found.{found, cardsRead, cardsAnswer, Sized, Tabled, Sees, formAt};
 ghost use Rattle.library.specs.WordForm.{okNumber, okFull, okLast, okFurther, firstTests, wordTests};
@@ -16,7 +15,6 @@ use crate::tables::DIRECTORY;
 use crate::tables::PURGED;
 use crate::tables::decks_of;
 use crate::tables::entries_of;
-use words::Expanded;
 
 // bit 59, set when no more history words follow
 const LAST: u64 = 0o40000000000000000000;
@@ -223,17 +221,6 @@ fn form_ok(image: &[u64], directory: &[u64], at: usize) -> bool
     }
 }
 
-// Row 6 of the words of a text.
-fn text_ok(text: &[u64]) -> bool
-    ensures { λ r. ⌜ r ≡ isText (now (text .entry)) ⌝ }
-{
-    let mut line = [0u8; 80];
-    match words::expand(text, &mut line) {
-        Expanded::Columns(_) => true,
-        Expanded::NoText => false,
-    }
-}
-
 // Rows 5 and 6, card by card.
 pub(crate) fn cards_fault(image: &[u64]) -> Checked
     requires { ⌜ Sized (now image) ⌝ }
@@ -254,7 +241,7 @@ pub(crate) fn cards_fault(image: &[u64]) -> Checked
         let card = see(image, at);
         let text = card.text;
         let next = card.next;
-        if !text_ok(&image[text..next]) {
+        if !words::is_text(&image[text..next]) {
             return Checked::Refused(Fault::Text, at);
         }
         at = next;

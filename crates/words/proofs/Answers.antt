@@ -2,12 +2,12 @@
 use Prim.Native.Nat.{ℕ, _≤_, _<_}
 use native.Mathlib.Omega.{arith}
 use mathlib.Core.Path.{_≡_, refl, sym, ap}
-use mathlib.Core.Bool.{Bool, true, false, _&&_}
+use mathlib.Core.Bool.{Bool, true, false}
 use mathlib.Core.List.{List, _++_}
-use borrow.Author.Tests.{lt-ltb, le-ltb, lt-leb, le-leb}
+use borrow.Author.Tests.{lt-ltb, le-ltb}
 use lib.Dec.{leb, leb→le}
 use lib.ListN.{length, drop}
-use Rattle.words.specs.Base.{all, same}
+use Rattle.words.specs.Base.{all}
 use Rattle.words.specs.Display.{inChart}
 use Rattle.words.specs.Text.{textWords, compressing, compressInto, says, isText, expanding, expandInto}
 use Rattle.words.specs.declared.Compressed.the-variants.{Words, Outside, Long}
@@ -35,32 +35,23 @@ module _ (l d : List ℕ) where
       let q : compressing l ≡ Words r = rw (e, le-ltb 80 (length l) h) (ap Words (sym (w .0))) in
       (sym q, rw (compressInto, q) (w .1))
 
--- WHERE WORDS ARE NO TEXT
+-- WHERE WORDS ARE TEXT
 -- 80 columns give at most 16 words
+pub text-few : (ws : List ℕ) → isText ws ≡ true → length ws ≤ 16
+text-few ws e =
+    let n : length (says ws) ≤ 80 = leb→le (length (says ws)) 80 (text-short ws e) in
+    omega (arith, ap length (written-says ws e), written-fits (says ws) n)
+
+pub text-fits : (ws : List ℕ) → isText ws ≡ true → length (says ws) ≤ 80
+text-fits ws e = leb→le (length (says ws)) 80 (text-short ws e)
+
+-- WHERE THEY ARE NONE
 pub long-text : (ws : List ℕ) → 16 < length ws → isText ws ≡ false
 long-text ws h = go (isText ws) refl
   where
     go : (c : Bool) → isText ws ≡ c → c ≡ false
-    go true e =
-        let n : length (says ws) ≤ 80 = leb→le (length (says ws)) 80 (text-short ws e) in
-        absurd (omega (arith, ap length (written-says ws e), written-fits (says ws) n))
+    go true e = absurd (omega (arith, text-few ws e))
     go false e = refl
-
-pub long-line : (ws : List ℕ) → 80 < length (says ws) → isText ws ≡ false
-unfolding isText
-long-line ws h = rw (lt-leb (length (says ws)) 80 h)
-
-pub other-text : (ws : List ℕ) → same (textWords (says ws)) ws ≡ false → isText ws ≡ false
-unfolding isText
-other-text ws e = rw e (go (leb (length (says ws)) 80))
-  where
-    go : (c : Bool) → (c && false) ≡ false
-    go true = refl
-    go false = refl
-
-pub same-text : (ws : List ℕ) → length (says ws) ≤ 80 → same (textWords (says ws)) ws ≡ true → isText ws ≡ true
-unfolding isText
-same-text ws h e = rw (le-leb (length (says ws)) 80 h, e)
 
 -- EXPANDING
 module _ (ws d : List ℕ) where

@@ -13,7 +13,7 @@ use Rattle.words.proofs.Tests.{and-left, and-right, and-both, all-appen
 use Rattle.words.proofs.Trimming.{endsWell}
 
 -- COLUMNS
-columns-sign : (c : ℕ) (r : List ℕ) → columnsOf (sign c r) ≡ c ∷ columnsOf r
+pub columns-sign : (c : ℕ) (r : List ℕ) → columnsOf (sign c r) ≡ c ∷ columnsOf r
 columns-sign zero r = refl
 columns-sign (suc c) r = refl
 
@@ -45,7 +45,7 @@ columns-short (suc zero) r = refl
 columns-short (suc (suc zero)) r = refl
 columns-short (suc (suc (suc m))) r = ap (λ (q : List ℕ). columnsOf (q ++ r)) (short-long m) ∙ columns-pair m r
 
-longs-append : (k : ℕ) (q r : List ℕ) → longRuns k q ++ r ≡ longRuns k (q ++ r)
+pub longs-append : (k : ℕ) (q r : List ℕ) → longRuns k q ++ r ≡ longRuns k (q ++ r)
 longs-append zero q r = refl
 longs-append (suc k) q r = ap {B = List ℕ} (λ t. 0 ∷ 0o77 ∷ t) (longs-append k q r)
 
@@ -66,7 +66,7 @@ pub replicate-snoc : (n x : ℕ) (r : List ℕ) → replicate n x ++ (x ∷ r) �
 replicate-snoc zero x r = refl
 replicate-snoc (suc n) x r = ap {B = List ℕ} (λ t. x ∷ t) (replicate-snoc n x r)
 
-sign-append : (c : ℕ) (q r : List ℕ) → sign c q ++ r ≡ sign c (q ++ r)
+pub sign-append : (c : ℕ) (q r : List ℕ) → sign c q ++ r ≡ sign c (q ++ r)
 sign-append zero q r = refl
 sign-append (suc c) q r = refl
 
@@ -147,7 +147,7 @@ length-compress (x ∷ xs) = go (eqb x gap) (length-squeeze 0 xs) (length-squeez
 abbrev pub isCode : ℕ → Bool
 isCode c = ltb c 64
 
-codes-gaps : (n : ℕ) → T (all isCode (replicate n gap))
+pub codes-gaps : (n : ℕ) → T (all isCode (replicate n gap))
 codes-gaps zero = tt
 codes-gaps (suc n) = codes-gaps n
 

@@ -16,3 +16,9 @@ pub mod Naming
 pub mod Numbering
 pub mod NameTrip
 pub mod Sixty
+pub mod Runs
+pub mod FormSound
+pub mod FormTaken
+pub mod FormWords
+pub mod OneForm
+pub mod FormWalk

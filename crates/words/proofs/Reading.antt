@@ -3,16 +3,16 @@ use Prim.Native.Nat.{ℕ, zero, suc, _+_, _-_, _*_, _/_, _%_, _^_, _≤_, _<_}
 use native.Mathlib.Omega.{arith}
 use native.Mathlib.Numerals.{add-one}
 use native.Mathlib.Nat.{div-one, div-div-eq-div-mul, pow-succ', add-suc, add-zero}
-use mathlib.Core.Path.{_≡_, refl, sym, ap, _∙_}
+use mathlib.Core.Path.{_≡_, refl, sym, ap, ap₂, _∙_}
 use mathlib.Core.List.{List, [], _∷_, _++_, map, append-assoc, append-nil}
-use lib.ListN.{length, getD, take, drop, replicate, List·getD-eq-default, drop-of-length-le, length-append, length-replicate}
-use lib.Seq.{drop-cons, getD-drop, length-take-le}
+use lib.ListN.{length, getD, take, drop, replicate, List·getD-eq-default, drop-of-length-le, length-append, length-replicate, take-append-drop}
+use lib.Seq.{drop-cons, getD-drop, drop-drop, length-take-le}
 use Rattle.words.specs.Display.{letter, blank}
 use Rattle.words.specs.Text.{gap, lowCodes, allCodes, columnsOf, says}
 use Rattle.words.proofs.Trimming.{blank-letter}
 
 -- THE CODE AT A PLACE
-low-beyond : (n w j : ℕ) (r : List ℕ) → getD (lowCodes n w r) (n + j) 0 ≡ getD r j 0
+pub low-beyond : (n w j : ℕ) (r : List ℕ) → getD (lowCodes n w r) (n + j) 0 ≡ getD r j 0
 low-beyond zero w j r = let e : zero + j ≡ j = omega arith in rw e
 low-beyond (suc n) w j r =
     let e : suc n + j ≡ n + suc j = omega arith in
@@ -148,21 +148,47 @@ module _ (ws d e : List ℕ) (at r k n b m : ℕ) where
       ∙ append-assoc (take at d) (replicate n b) (From ws (k + m))
       ∙ ap (λ (x : List ℕ). take at d ++ x) (sym q)
 
-pub said-over : (ws d : List ℕ) (at k n b m : ℕ) → at ≤ length d → 80 < at + n → Said ws d at k ≡ says ws
-    → From ws k ≡ replicate n b ++ From ws (k + m) → 80 < length (says ws)
-said-over ws d at k n b m h over s q =
+pub said-fits : (ws d : List ℕ) (at k n b m : ℕ) → at ≤ length d → Said ws d at k ≡ says ws → From ws k ≡ replicate n b ++ From ws (k + m) → at + n ≤ length (says ws)
+said-fits ws d at k n b m h s q =
     let all : take at d ++ (replicate n b ++ From ws (k + m)) ≡ says ws = ap (λ (x : List ℕ). take at d ++ x) (sym q) ∙ s in
     omega
     (arith, ap length all, length-append (take at d) (replicate n b ++ From ws (k + m)), length-append (replicate n b) (From ws (k + m)), length-take-le at d h, length-replicate n b)
 
-pub said-end : (ws d : List ℕ) (at k : ℕ) → length ws * 10 ≤ k → Said ws d at k ≡ take at d
+said-end : (ws d : List ℕ) (at k : ℕ) → length ws * 10 ≤ k → Said ws d at k ≡ take at d
 said-end ws d at k h =
     let out : length (allCodes ws) ≤ k = omega (arith, length-codes ws) in
     rw (drop-of-length-le (allCodes ws) out) (append-nil (take at d))
 
--- d holds the columns said, up to at, by the codes up to k
-pub record Saying (ws d : List ℕ) (at k : ℕ) : Type 0 where
+-- d is c with the columns said, up to at, by the codes up to k
+pub record Saying (ws c d : List ℕ) (at k : ℕ) : Type 0 where
   pub inside : k ≤ length ws * 10
-  pub fits : at ≤ 80
+  pub few : length ws ≤ 16
+  pub short : length (says ws) ≤ 80
+  pub room : at ≤ 80
   pub long : length d ≡ 80
   pub todo : Said ws d at k ≡ says ws
+  pub rest : drop at d ≡ drop at c
+
+module _ (ws c d : List ℕ) (at k : ℕ) (saying : Saying ws c d at k) where
+  pub saying-fits : (n b m : ℕ) → From ws k ≡ replicate n b ++ From ws (k + m) → at + n ≤ 80
+  saying-fits n b m q = omega (arith, saying .short, said-fits ws d at k n b m (omega (arith, saying .room, saying .long)) (saying .todo) q)
+
+  pub saying-more : (e : List ℕ) (r n b m : ℕ) → length e ≡ 80 → k + m ≤ length ws * 10 → From ws k ≡ replicate n b ++ From ws (k + m)
+      → (r ≡ at + n) × ((take r e ≡ take at d ++ replicate n b) × (drop r e ≡ drop r d)) → Saying ws c e r (k + m)
+  saying-more e r n b m l h q p =
+      let f = saying-fits n b m q in
+      record {
+        inside = h;
+        few = saying .few;
+        short = saying .short;
+        room = omega (arith, p .0, f);
+        long = l;
+        todo = said-more ws d e at r k n b m (p .1 .0) q ∙ saying .todo;
+        rest = p .1 .1 ∙ ap (λ (i : ℕ). drop i d) (p .0) ∙ sym (drop-drop n at d) ∙ ap (drop n) (saying .rest) ∙ drop-drop n at c ∙ ap (λ (i : ℕ). drop i c) (sym (p .0));
+      }
+
+  pub saying-end : length ws * 10 ≤ k → (at ≡ length (says ws)) × (d ≡ says ws ++ drop at c)
+  saying-end h =
+      let t : take at d ≡ says ws = sym (said-end ws d at k h) ∙ saying .todo in
+      let n : length (take at d) ≡ at = length-take-le at d (omega (arith, saying .room, saying .long)) in
+      (omega (arith, ap length t), sym (take-append-drop at d) ∙ ap₂ _++_ t (saying .rest))

@@ -23,12 +23,12 @@ letter-of-code b e = letter-code b (true-T (inChart b) e)
 pub code-of-letter : CodeOfLetter
 code-of-letter = code-letter
 
-columns-zeros : (z : ℕ) → columnsOf (replicate z 0) ≡ []
+pub columns-zeros : (z : ℕ) → columnsOf (replicate z 0) ≡ []
 columns-zeros zero = refl
 columns-zeros (suc zero) = refl
 columns-zeros (suc (suc z)) = refl
 
-codes-line : (l : List ℕ) → T (all inChart l) → T (all isCode (map codeOf l))
+pub codes-line : (l : List ℕ) → T (all inChart l) → T (all isCode (map codeOf l))
 codes-line [] t = tt
 codes-line (x ∷ xs) t =
     and-both (inChart x) (all isCode (map codeOf xs)) (and-left (inChart x) (all inChart xs) t) (codes-line xs (and-right (inChart x) (all inChart xs) t))

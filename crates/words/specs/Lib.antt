@@ -1,6 +1,7 @@
 pub mod Base
 pub mod Display
 pub mod Text
+pub mod Form
 pub mod Names
 pub mod TextTrip
 pub mod NameTrip

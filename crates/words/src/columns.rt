@@ -40,6 +40,7 @@ pub(crate) fn put_columns(b: u8, n: usize, line: &mut [u8], at: usize) -> usize
     requires { ⌜ at + n ≤ length (now line) ⌝ }
     ensures { λ r. ⌜ r ≡ at + n ⌝ }
     ensures { λ r. ⌜ take r (now (line .exit)) ≡ take at (now (line .entry)) ++ replicate n b ⌝ }
+    ensures { λ r. ⌜ drop r (now (line .exit)) ≡ drop r (now (line .entry)) ⌝ }
 {
     let end = at + n;
     let mut i = at;

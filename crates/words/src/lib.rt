@@ -2,6 +2,7 @@
 mod codes;
 mod columns;
 mod display;
+mod form;
 mod names;
 mod text;
 
@@ -9,6 +10,7 @@ pub use columns::in_set;
 pub use columns::trimmed;
 pub use display::code_of;
 pub use display::letter_of;
+pub use form::is_text;
 pub use names::name_of_word;
 pub use names::number_read;
 pub use names::put_number;

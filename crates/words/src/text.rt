@@ -4,26 +4,24 @@ ghost use mathlib.Core.Bool.{true};
 ghost use mathlib.Core.List.{[], _∷_, _++_, map};
 ghost use Prim.Native.Nat.{_+_, _*_, _≤_, _<_};
 ghost use lib.ListN.{length, getD, take, drop, replicate};
-ghost use Rattle.words.specs.Base.{all, same};
+ghost use Rattle.words.specs.Base.{all};
 ghost use Rattle.words.specs.Display.{codeOf, inChart, letter};
-ghost use Rattle.words.specs.Text.{shortRun, blanks, sign, squeeze, compress, textWords, compressing, compressInto, compressedNumber, allCodes, columnsOf, says, expanding, expandInto, expandedNumber};
+ghost use Rattle.words.specs.Text.{shortRun, blanks, sign, squeeze, compress, textWords, compressing, compressInto, compressedNumber, allCodes, columnsOf, says, isText, expanding, expandInto, expandedNumber};
 use crate::Compressed;
 use crate::Expanded;
 use crate::codes::TEN;
 use crate::codes::code_in;
 use crate::codes::fill;
 use crate::columns::in_set;
-use crate::columns::put_bytes;
 use crate::columns::put_columns;
 use crate::columns::trimmed;
 use crate::display::BLANK;
 use crate::display::GAP;
 use crate::display::code_of;
 use crate::display::letter_of;
-
-const COLUMNS: usize = 80;
-
-const WORDS: usize = 16;
+use crate::form::COLUMNS;
+use crate::form::WORDS;
+use crate::form::is_text;
 
 // 01's numbers
 const DONE: u64 = 0;
@@ -237,71 +235,32 @@ fn run_at(text: &[u64], k: usize) -> Run
     }
 }
 
-// The columns that a text says, or that they are more than 80.
+// The columns that a text says.
 fn say(text: &[u64], line: &mut [u8]) -> usize
-    requires { ⌜ length (now text) ≤ 16 ⌝ }
+    requires { ⌜ isText (now text) ≡ true ⌝ }
     requires { ⌜ length (now line) ≡ 80 ⌝ }
-    ensures { λ r. ⌜ (r ≤ 80 → take r (now (line .exit)) ≡ says (now (text .entry))) ⌝ }
-    ensures { λ r. ⌜ (80 < r → 80 < length (says (now (text .entry)))) ⌝ }
+    ensures { λ r. ⌜ r ≡ length (says (now (text .entry))) ⌝ }
+    ensures { λ r. ⌜ now (line .exit) ≡ says (now (text .entry)) ++ drop r (now (line .entry)) ⌝ }
 {
     let n = text.len() * TEN;
     let mut at = 0;
     let mut k = 0;
     while k < n {
         let run = run_at(text, k);
-        let count = run.count;
-        if COLUMNS - at < count {
-            return COLUMNS + 1;
-        }
-        at = put_columns(run.byte, count, line, at);
+        at = put_columns(run.byte, run.count, line, at);
         k += run.codes;
     }
     at
-}
-
-fn same_words(a: &[u64], b: &[u64]) -> bool
-    ensures { λ r. ⌜ r ≡ same (now (a .entry)) (now (b .entry)) ⌝ }
-{
-    if a.len() != b.len() {
-        return false;
-    }
-    let mut i = 0;
-    while i < a.len() {
-        if a[i] != b[i] {
-            return false;
-        }
-        i += 1;
-    }
-    true
-}
-
-fn is_written(line: &[u8], text: &[u64]) -> bool
-    requires { ⌜ all inChart (now line) ≡ true ⌝ }
-    requires { ⌜ length (now line) ≤ 80 ⌝ }
-    ensures { λ r. ⌜ r ≡ same (textWords (now (line .entry))) (now (text .entry)) ⌝ }
-{
-    let mut words = [0u64; WORDS];
-    let n = write(line, &mut words);
-    same_words(&words[..n], text)
 }
 
 pub fn expand(text: &[u64], line: &mut [u8; COLUMNS]) -> Expanded
     ensures { λ r. ⌜ r ≡ expanding (now (text .entry)) ⌝ }
     ensures { λ _. ⌜ now (line .exit) ≡ expandInto (now (text .entry)) (now (line .entry)) ⌝ }
 {
-    if WORDS < text.len() {
+    if !is_text(text) {
         return Expanded::NoText;
     }
-    let mut said = [0u8; COLUMNS];
-    let n = say(text, &mut said);
-    if COLUMNS < n {
-        return Expanded::NoText;
-    }
-    if !is_written(&said[..n], text) {
-        return Expanded::NoText;
-    }
-    put_bytes(&said[..n], line, 0);
-    Expanded::Columns(n)
+    Expanded::Columns(say(text, line))
 }
 
 pub fn expanded_number(e: Expanded) -> u64

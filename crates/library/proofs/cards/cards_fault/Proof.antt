@@ -58,31 +58,31 @@ returns-2 c =
 see-requires : tie.Need-see-requires Inv-loop μ-loop
 see-requires c κs = search needs
 
-mul-text-ok : tie.Need-mul-text-ok Inv-loop μ-loop
-mul-text-ok c = search needs
+mul-is-text : tie.Need-mul-is-text Inv-loop μ-loop
+mul-is-text c = search needs
 
-sub-text-ok : tie.Need-sub-text-ok Inv-loop μ-loop
-sub-text-ok c = search needs
+sub-is-text : tie.Need-sub-is-text Inv-loop μ-loop
+sub-is-text c = search needs
 
-part-text-ok-start : tie.Need-part-text-ok-start Inv-loop μ-loop
-part-text-ok-start c = search needs
+part-is-text-start : tie.Need-part-is-text-start Inv-loop μ-loop
+part-is-text-start c = search needs
 
-part-text-ok-end : tie.Need-part-text-ok-end Inv-loop μ-loop
-part-text-ok-end c =
+part-is-text-end : tie.Need-part-is-text-end Inv-loop μ-loop
+part-is-text-end c =
     let l = c .before .before .before .before .before .loop in
     let ws = c .before .before .before .before .before .before .before .before .before .before .args .image .now in
     let p = passed _ ws (l .at) (omega arith) (sym (c .before .before .form-ok .ensures) ∙ not-false _ (c .before .if2 .left)) _ (c .see .ensures .1) in
     omega arith
 
-text-ok-requires : tie.Need-text-ok-requires Inv-loop μ-loop
-text-ok-requires c κs = search needs
+is-text-requires : tie.Need-is-text-requires Inv-loop μ-loop
+is-text-requires c κs = search needs
 
 returns-3 : tie.Need-returns-3 Inv-loop μ-loop
 returns-3 c =
     let l = c .before .before .before .before .before .before .before .before .loop in
     let ws = c .before .before .before .before .before .before .before .before .before .before .before .before .before .args .image .now in
     let p = passed _ ws (l .at) (omega arith) (sym (c .before .before .before .before .before .form-ok .ensures) ∙ not-false _ (c .before .before .before .before .if2 .left)) _ (c .before .before .before .see .ensures .1) in
-    sym (l .inv .1 .1 ∙ turn-text _ ws (l .at) (l .n) (omega arith) (omega arith) _ p (sym (c .before .text-ok .ensures) ∙ not-true _ (c .if3 .taken)))
+    sym (l .inv .1 .1 ∙ turn-text _ ws (l .at) (l .n) (omega arith) (omega arith) _ p (sym (c .before .is-text .ensures) ∙ not-true _ (c .if3 .taken)))
 
 add-n : tie.Need-add-n Inv-loop μ-loop
 add-n c = search needs
@@ -99,7 +99,7 @@ loop-again c =
     let l = c .before .before .before .before .before .before .before .before .loop in
     let ws = c .before .before .before .before .before .before .before .before .before .before .before .before .before .args .image .now in
     let p = passed _ ws (l .at) (omega arith) (sym (c .before .before .before .before .before .form-ok .ensures) ∙ not-false _ (c .before .before .before .before .if2 .left)) _ (c .before .before .before .see .ensures .1) in
-    (omega arith, (omega arith, l .inv .1 .1 ∙ turn-on _ ws (l .at) (l .n) (omega arith) (omega arith) _ p (sym (c .before .text-ok .ensures) ∙ not-false _ (c .if3 .left))))
+    (omega arith, (omega arith, l .inv .1 .1 ∙ turn-on _ ws (l .at) (l .n) (omega arith) (omega arith) _ p (sym (c .before .is-text .ensures) ∙ not-false _ (c .if3 .left))))
 
 returns-4 : tie.Need-returns-4 Inv-loop μ-loop
 returns-4 c =
@@ -124,11 +124,11 @@ cards-fault-spec =
     form-ok-requires
     returns-2
     see-requires
-    mul-text-ok
-    sub-text-ok
-    part-text-ok-start
-    part-text-ok-end
-    text-ok-requires
+    mul-is-text
+    sub-is-text
+    part-is-text-start
+    part-is-text-end
+    is-text-requires
     returns-3
     add-n
     loop-less

@@ -52,7 +52,7 @@ returns-2 c =
     let long : length d ≡ n = omega (arith, length-drop (p .result) (p .last .1 .0), p .kept .1 .0) in
     let all : take n d ≡ d = take-all n d (omega arith) in
     let blanks = c .before .before .before .before .before .before .before .before .put-columns in
-    justified (c .before .before .before .before .before .before .before .before .before .before .before .before .before .before .before .args .n) (c .before .before .before .before .before .before .before .before .before .before .before .before .before .before .before .args .field .now) (blanks .last .1 .1 .0) _ (take n d) (blanks .result) (length (c .before .before .before .before .before .before .before .before .before .before .before .before .before .before .before .args .field .now) - n) (all ∙ p .ensures .1) (omega (arith, ap length all)) (omega (arith, ap length all)) (omega arith) (blanks .kept .1 .1 .0) (blanks .ensures .1) (c .before .before .put-bytes .ensures)
+    justified (c .before .before .before .before .before .before .before .before .before .before .before .before .before .before .before .args .n) (c .before .before .before .before .before .before .before .before .before .before .before .before .before .before .before .args .field .now) (blanks .last .1 .1 .0) _ (take n d) (blanks .result) (length (c .before .before .before .before .before .before .before .before .before .before .before .before .before .before .before .args .field .now) - n) (all ∙ p .ensures .1) (omega (arith, ap length all)) (omega (arith, ap length all)) (omega arith) (blanks .kept .1 .1 .0) (blanks .ensures .1 .0) (c .before .before .put-bytes .ensures)
 
 pub put-number-spec : {M : Type 1} → statement M
 put-number-spec =
