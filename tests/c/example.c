@@ -1,21 +1,11 @@
 /* The C face in use: makes a library, corrects it, writes its compile file, takes the correction back and looks at the directory, all in
  * memory, on the shown example of document 01. The last line counts. */
+#include "expect.h"
 #include "galdwist.h"
-#include <stdio.h>
 #include <string.h>
 
 static uint64_t library[GALDWIST_WORDS], next[GALDWIST_WORDS];
 static uint8_t file[100 * GALDWIST_LINE], rows[10 * GALDWIST_ROW];
-static int passed, failed;
-
-static void expect(int ok, const char *what) {
-    if (ok) {
-        passed++;
-    } else {
-        failed++;
-        printf("FAILED: %s\n", what);
-    }
-}
 
 /* A correction run over the library; a refusal leaves it as it was. */
 static uint64_t run(size_t *words, const char *stream, uint64_t *value) {
@@ -66,6 +56,5 @@ int main(void) {
     expect(memcmp(rows, "PUMP     D ONE      SYTWO      S ", 3 * GALDWIST_ROW) == 0, "a deck, a yanked set, a set");
     expect(galdwist_card(library, words, 1, 3, card, sizeof card, &value) == 0 && value == 6 && memcmp(card, "PUMP.3", 6) == 0, "a card's name");
 
-    printf("%d passed, %d failed\n", passed, failed);
-    return failed != 0;
+    return counted();
 }

@@ -1,28 +1,10 @@
 /* The keeper's functions through the C face: the fresh library, the directory and a card of 01's shown library, both sides of each space. The last line counts. */
+#include "expect.h"
 #include "galdwist.h"
-#include <stdio.h>
+#include "shown.h"
 #include <string.h>
 
-static int passed, failed;
-
-static void expect(int right, const char *what) {
-    if (right) {
-        passed++;
-    } else {
-        failed++;
-        printf("FAILED: %s\n", what);
-    }
-}
-
-#define HEADER 03100503130004003147
-#define YANKS 031011613535353000000
-#define PUMP 020251520000000000000
-#define ONE 017160500000000000000
-
-static const uint64_t shown[] = {HEADER, 02000002, PUMP, ONE, YANKS, PUMP,
-                                 060000001000001200001, 047040503135520251520,
-                                 01000002200001, 040000002000000000000, 055015434000000000000, 060000001000001200002,
-                                 055015436000000000000, 060000001000003200001, 055025435000000000000};
+static const uint64_t shown[] = SHOWN;
 
 /* a card's name, in a space of `room` bytes */
 static void card(uint64_t owner, uint64_t seq, size_t room, uint64_t number, const char *text, const char *what) {
@@ -54,6 +36,5 @@ int main(void) {
     card(3, 3, 64, 0, ".3", "an owner past the directory");
     card(UINT64_MAX, 3, 64, 0, ".3", "the last number");
     expect(galdwist_card(shown, 2, 1, 3, rows, 23, &value) == 1 && value == 2 && rows[0] == 'P', "a card of no library");
-    printf("%d passed, %d failed\n", passed, failed);
-    return failed != 0;
+    return counted();
 }

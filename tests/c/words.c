@@ -1,18 +1,7 @@
 /* Packing and unpacking through the C face: good, odd, spoiled and too short input. The last line counts. */
+#include "expect.h"
 #include "galdwist.h"
-#include <stdio.h>
 #include <string.h>
-
-static int passed, failed;
-
-static void expect(int ok, const char *what) {
-    if (ok) {
-        passed++;
-    } else {
-        failed++;
-        printf("FAILED: %s\n", what);
-    }
-}
 
 /* words as eight bytes each, lowest first */
 static size_t put_words(const uint64_t *words, size_t n, uint8_t *out) {
@@ -117,6 +106,5 @@ int main(void) {
     fresh_library();
     spoiled();
     nothing();
-    printf("%d passed, %d failed\n", passed, failed);
-    return failed != 0;
+    return counted();
 }

@@ -15,14 +15,14 @@ pub record Counting (n m k : ℕ) : Type 0 where
   pub all : left + length rest ≡ 19
   pub count : k ≡ length rest + 1
   pub below : m < 10 ^ suc left
-  pub todo : digits (suc left) m rest ≡ numeral n
+  pub owed : digits (suc left) m rest ≡ numeral n
 
 pub count-start : (n : ℕ) → n < 2 ^ 64 → Counting n n 1
 unfolding numeral
-count-start n h = record { left = 19; rest = []; all = refl; count = refl; below = omega arith; todo = refl }
+count-start n h = record { left = 19; rest = []; all = refl; count = refl; below = omega arith; owed = refl }
 
 pub count-more : (n m k : ℕ) → 10 ≤ m → Counting n m k → Counting n (m / 10) (k + 1)
-count-more n m k h c = go (c .left) (c .all) (c .below) (c .todo)
+count-more n m k h c = go (c .left) (c .all) (c .below) (c .owed)
   where
     go : (left : ℕ) → left + length (c .rest) ≡ 19 → m < 10 ^ suc left → digits (suc left) m (c .rest) ≡ numeral n → Counting n (m / 10) (k + 1)
     go zero a b t = absurd (omega arith)
@@ -34,11 +34,11 @@ count-more n m k h c = go (c .left) (c .all) (c .below) (c .todo)
           all = omega arith;
           count = omega (arith, c .count);
           below = omega arith;
-          todo = rw (le-ltb m 10 h) at t;
+          owed = rw (le-ltb m 10 h) at t;
         }
 
 pub count-end : (n m k : ℕ) → m < 10 → Counting n m k → (k ≤ 20) × (k ≡ length (numeral n))
 count-end n m k h c =
-    let t : (48 + m) ∷ c .rest ≡ numeral n = rw (lt-ltb m 10 h) at (c .todo) in
+    let t : (48 + m) ∷ c .rest ≡ numeral n = rw (lt-ltb m 10 h) at (c .owed) in
     let l : suc (length (c .rest)) ≡ length (numeral n) = ap length t in
     (omega (arith, c .all, c .count), omega (arith, c .count))

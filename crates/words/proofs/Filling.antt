@@ -47,17 +47,17 @@ power-fits w k h l = subst (λ (n : ℕ). w * 64 ^ (10 - k) < n) e (mul-lt-mul-o
     e = sym (pow-add 64 k (10 - k)) ∙ ap power ten
 
 -- ONE CODE MORE
-abbrev pub Todo : List ℕ → List ℕ → ℕ → ℕ → ℕ → ℕ → List ℕ
-Todo cs d m w k i = take m d ++ fill w (10 - k) (drop i cs)
+abbrev pub Owed : List ℕ → List ℕ → ℕ → ℕ → ℕ → ℕ → List ℕ
+Owed cs d m w k i = take m d ++ fill w (10 - k) (drop i cs)
 
 module _ (cs : List ℕ) (w k i : ℕ) (inside : i < length cs) where
-  pub todo-more : (d : List ℕ) (m : ℕ) → k < 10 → Todo cs d m (w * 64 + getD cs i 0) (k + 1) (i + 1) ≡ Todo cs d m w k i
-  todo-more d m h =
+  pub owed-more : (d : List ℕ) (m : ℕ) → k < 10 → Owed cs d m (w * 64 + getD cs i 0) (k + 1) (i + 1) ≡ Owed cs d m w k i
+  owed-more d m h =
       let e : 10 - k ≡ suc (10 - (k + 1)) = omega arith in
       rw (e, add-one i, drop-cons cs i 0 inside)
 
-  pub todo-next : (d : List ℕ) (m : ℕ) → k ≡ 10 → m < length d → Todo cs (set d m w) (m + 1) (getD cs i 0) 1 (i + 1) ≡ Todo cs d m w k i
-  todo-next d m e h =
+  pub owed-next : (d : List ℕ) (m : ℕ) → k ≡ 10 → m < length d → Owed cs (set d m w) (m + 1) (getD cs i 0) 1 (i + 1) ≡ Owed cs d m w k i
+  owed-next d m e h =
       rw (e, add-one i, add-one m, drop-cons cs i 0 inside, take-suc-set d m w h)
       (append-assoc (take m d) (w ∷ []) (fill (getD cs i 0) 9 (drop (suc i) cs)))
 
@@ -73,14 +73,14 @@ pub record Filled (cs d e : List ℕ) (m w k i : ℕ) : Type 0 where
   pub count : m * 10 + k ≡ i
   pub few : k ≤ 10
   pub below : w < 64 ^ k
-  pub todo : Todo cs e m w k i ≡ wordsOf cs
+  pub owed : Owed cs e m w k i ≡ wordsOf cs
   pub rest : drop m e ≡ drop m d
 
 -- THE END
-module _ (cs d e : List ℕ) (m w k i : ℕ) (over : length cs ≤ i) (todo : Todo cs e m w k i ≡ wordsOf cs) (rest : drop m e ≡ drop m d) where
+module _ (cs d e : List ℕ) (m w k i : ℕ) (over : length cs ≤ i) (owed : Owed cs e m w k i ≡ wordsOf cs) (rest : drop m e ≡ drop m d) where
   pub fill-whole : m ≤ length e → k ≡ 0 → (m ≡ length (wordsOf cs)) × (e ≡ wordsOf cs ++ drop m d)
   fill-whole room z =
-      let a : take m e ≡ wordsOf cs = sym (append-nil (take m e)) ∙ rw (drop-of-length-le cs over, z) at todo in
+      let a : take m e ≡ wordsOf cs = sym (append-nil (take m e)) ∙ rw (drop-of-length-le cs over, z) at owed in
       let n : length (take m e) ≡ m = length-take-le m e room in
       (omega (arith, ap length a), sym (take-append-drop m e) ∙ ap₂ _++_ a rest)
 
@@ -89,7 +89,7 @@ module _ (cs d e : List ℕ) (m w k i : ℕ) (over : length cs ≤ i) (todo : To
   fill-part room le z =
       let v : ℕ = w * 64 ^ (10 - k) in
       let ne : (10 - k ≡ 10 → ⊥) = λ q. z (omega arith) in
-      let a : take m e ++ (v ∷ []) ≡ wordsOf cs = rw (drop-of-length-le cs over, ne-eqb (10 - k) 10 ne) at todo in
+      let a : take m e ++ (v ∷ []) ≡ wordsOf cs = rw (drop-of-length-le cs over, ne-eqb (10 - k) 10 ne) at owed in
       let n : length (take m e) ≡ m = length-take-le m e (omega arith) in
       let r : drop (m + 1) (set e m v) ≡ drop (m + 1) d = beyond-more d e m v rest in
       let t : take (m + 1) (set e m v) ≡ take m e ++ (v ∷ []) = rw add-one (take-suc-set e m v room) in (

@@ -74,7 +74,7 @@ pub record Packed (n : List ℕ) (w i : ℕ) : Type 0 where
   pub inside : i ≤ length n
   pub below : w < 64 ^ i
   pub good : all isNameByte (drop i n) ≡ all isNameByte n
-  pub todo : packCodes w (10 - i) (drop i n) ≡ packCodes 0 10 n
+  pub owed : packCodes w (10 - i) (drop i n) ≡ packCodes 0 10 n
 
 -- A WORD'S LETTERS
 abbrev cut : List ℕ → List ℕ

@@ -41,7 +41,7 @@ pub record Reads (ds : List ℕ) (n i : ℕ) : Type 0 where
   pub inside : i ≤ length ds
   pub below : n < 10 ^ i
   pub good : all isDigit (drop i ds) ≡ all isDigit ds
-  pub todo : decimal n (drop i ds) ≡ decimal 0 ds
+  pub owed : decimal n (drop i ds) ≡ decimal 0 ds
 
 none-read : (ds : List ℕ) → isNumber ds ≡ false → 0 ≡ numberRead ds
 unfolding numberRead
@@ -109,7 +109,7 @@ pub record Writes (n : ℕ) (d : List ℕ) (m i : ℕ) : Type 0 where
   pub inside : i ≤ 19
   pub long : length d ≡ 20
   pub below : m < 10 ^ (i + 1)
-  pub todo : Digits d m i ≡ numeral n
+  pub owed : Digits d m i ≡ numeral n
 
 -- RIGHT JUSTIFIED
 module _ (n : ℕ) (d : List ℕ) where

@@ -166,12 +166,12 @@ pub record Saying (ws c d : List ℕ) (at k : ℕ) : Type 0 where
   pub short : length (says ws) ≤ 80
   pub room : at ≤ 80
   pub long : length d ≡ 80
-  pub todo : Said ws d at k ≡ says ws
+  pub owed : Said ws d at k ≡ says ws
   pub rest : drop at d ≡ drop at c
 
 module _ (ws c d : List ℕ) (at k : ℕ) (saying : Saying ws c d at k) where
   pub saying-fits : (n b m : ℕ) → From ws k ≡ replicate n b ++ From ws (k + m) → at + n ≤ 80
-  saying-fits n b m q = omega (arith, saying .short, said-fits ws d at k n b m (omega (arith, saying .room, saying .long)) (saying .todo) q)
+  saying-fits n b m q = omega (arith, saying .short, said-fits ws d at k n b m (omega (arith, saying .room, saying .long)) (saying .owed) q)
 
   pub saying-more : (e : List ℕ) (r n b m : ℕ) → length e ≡ 80 → k + m ≤ length ws * 10 → From ws k ≡ replicate n b ++ From ws (k + m)
       → (r ≡ at + n) × ((take r e ≡ take at d ++ replicate n b) × (drop r e ≡ drop r d)) → Saying ws c e r (k + m)
@@ -183,12 +183,12 @@ module _ (ws c d : List ℕ) (at k : ℕ) (saying : Saying ws c d at k) where
         short = saying .short;
         room = omega (arith, p .0, f);
         long = l;
-        todo = said-more ws d e at r k n b m (p .1 .0) q ∙ saying .todo;
+        owed = said-more ws d e at r k n b m (p .1 .0) q ∙ saying .owed;
         rest = p .1 .1 ∙ ap (λ (i : ℕ). drop i d) (p .0) ∙ sym (drop-drop n at d) ∙ ap (drop n) (saying .rest) ∙ drop-drop n at c ∙ ap (λ (i : ℕ). drop i c) (sym (p .0));
       }
 
   pub saying-end : length ws * 10 ≤ k → (at ≡ length (says ws)) × (d ≡ says ws ++ drop at c)
   saying-end h =
-      let t : take at d ≡ says ws = sym (said-end ws d at k h) ∙ saying .todo in
+      let t : take at d ≡ says ws = sym (said-end ws d at k h) ∙ saying .owed in
       let n : length (take at d) ≡ at = length-take-le at d (omega (arith, saying .room, saying .long)) in
       (omega (arith, ap length t), sym (take-append-drop at d) ∙ ap₂ _++_ t (saying .rest))

@@ -50,7 +50,7 @@ pub record Squeezed (l d : List ℕ) (at i n : ℕ) : Type 0 where
   pub long : length d ≡ 160
   pub room : at + n ≤ 2 * i
   pub waiting : n ≤ i
-  pub todo : Left l d at n i ≡ compress (map codeOf l)
+  pub owed : Left l d at n i ≡ compress (map codeOf l)
 
 -- THE FIRST COLUMN
 pub lead-empty : (l : List ℕ) → length l ≡ 0 → squeeze 0 (map codeOf l) ≡ compress (map codeOf l)

@@ -5,7 +5,7 @@ use native.Mathlib.Omega.{arith}
 use mathlib.Core.Path.{_≡_, refl, _∙_}
 use lib.ListN.{length, getD, length-set}
 use Rattle.words.specs.Text.{wordsOf}
-use Rattle.words.proofs.Filling.{Filled, power-more, power-low, power-fits, todo-more, todo-next, beyond-more, fill-whole, fill-part}
+use Rattle.words.proofs.Filling.{Filled, power-more, power-low, power-fits, owed-more, owed-next, beyond-more, fill-whole, fill-part}
 use Rattle.words.proofs.codes.fill.Statement.{statement}
 use Rattle.words.proofs.codes.fill.Tie as tie
 
@@ -17,7 +17,7 @@ abbrev μ-loop : tie.MeasureT-loop
 
 loop-holds : tie.Need-loop-holds Inv-loop μ-loop
 unfolding wordsOf
-loop-holds c = record { inside = omega arith; long = refl; count = omega arith; few = omega arith; below = omega arith; todo = refl; rest = refl }
+loop-holds c = record { inside = omega arith; long = refl; count = omega arith; few = omega arith; below = omega arith; owed = refl; rest = refl }
 
 shared-slice-read-wide : tie.Need-shared-slice-read-wide Inv-loop μ-loop
 shared-slice-read-wide c = search needs
@@ -53,7 +53,7 @@ loop-again c =
       count = omega arith;
       few = omega arith;
       below = omega arith;
-      todo = rw x (todo-next s (l .w) (l .k) (l .i) (c .before .before .before .loop-test .taken) (l .words) (l .m) (c .if1 .taken) room) ∙ l .inv .todo;
+      owed = rw x (owed-next s (l .w) (l .k) (l .i) (c .before .before .before .loop-test .taken) (l .words) (l .m) (c .if1 .taken) room) ∙ l .inv .owed;
       rest = beyond-more (c .before .before .before .before .before .before .before .args .words .now) (l .words) (l .m) (l .w) (l .inv .rest);
     }
 
@@ -87,7 +87,7 @@ loop-again-2 c =
       count = omega arith;
       few = omega arith;
       below = rw x (power-more (l .w) (l .k) (getD s (l .i) 0) (l .inv .below) (c .before .before .before .before .before .before .before .pre .0 (l .i)));
-      todo = rw x (todo-more s (l .w) (l .k) (l .i) (c .before .before .before .loop-test .taken) (l .words) (l .m) h) ∙ l .inv .todo;
+      owed = rw x (owed-more s (l .w) (l .k) (l .i) (c .before .before .before .loop-test .taken) (l .words) (l .m) h) ∙ l .inv .owed;
       rest = l .inv .rest;
     }
 
@@ -97,7 +97,7 @@ same-length c = search needs
 returns : tie.Need-returns Inv-loop μ-loop
 returns c =
     let l = c .before .before .loop in
-    fill-whole (c .before .before .before .before .before .args .codes .now) (c .before .before .before .before .before .args .words .now) (l .words) (l .m) (l .w) (l .k) (l .i) (c .before .loop-test .left) (l .inv .todo) (l .inv .rest) (omega arith) (c .if2 .taken)
+    fill-whole (c .before .before .before .before .before .args .codes .now) (c .before .before .before .before .before .args .words .now) (l .words) (l .m) (l .w) (l .k) (l .i) (c .before .loop-test .left) (l .inv .owed) (l .inv .rest) (omega arith) (c .if2 .taken)
 
 sub-power : tie.Need-sub-power Inv-loop μ-loop
 sub-power c = search needs
@@ -127,7 +127,7 @@ returns-2 : tie.Need-returns-2 Inv-loop μ-loop
 returns-2 c =
     let l = c .before .before .before .loop in
     let p : c .power .result ≡ 64 ^ (10 - l .k) = c .power .ensures in
-    rw p (fill-part (c .before .before .before .before .before .before .args .codes .now) (c .before .before .before .before .before .before .args .words .now) (l .words) (l .m) (l .w) (l .k) (l .i) (c .before .before .loop-test .left) (l .inv .todo) (l .inv .rest) (omega arith) (l .inv .few) (c .before .if2 .left))
+    rw p (fill-part (c .before .before .before .before .before .before .args .codes .now) (c .before .before .before .before .before .before .args .words .now) (l .words) (l .m) (l .w) (l .k) (l .i) (c .before .before .loop-test .left) (l .inv .owed) (l .inv .rest) (omega arith) (l .inv .few) (c .before .if2 .left))
 
 pub fill-spec : {M : Type 1} → statement M
 fill-spec =

@@ -20,7 +20,7 @@ returns : tie.Need-returns Inv-loop μ-loop
 returns c = read-long (c .before .before .args .digits .now) (c .if1 .taken)
 
 loop-holds : tie.Need-loop-holds Inv-loop μ-loop
-loop-holds c = record { inside = omega arith; below = omega arith; good = refl; todo = refl }
+loop-holds c = record { inside = omega arith; below = omega arith; good = refl; owed = refl }
 
 shared-slice-read-d : tie.Need-shared-slice-read-d Inv-loop μ-loop
 shared-slice-read-d c = search needs
@@ -62,7 +62,7 @@ loop-again c =
       inside = omega arith;
       below = below-more (l .n) (l .i) (c .wide .result) (l .inv .below) (omega arith);
       good = passes isDigit s (l .i) (c .before .before .before .before .loop-test .taken) one ∙ l .inv .good;
-      todo = decimal-more s (l .n) (l .i) (c .wide .result) (c .before .before .before .before .loop-test .taken) x ∙ l .inv .todo;
+      owed = decimal-more s (l .n) (l .i) (c .wide .result) (c .before .before .before .before .loop-test .taken) x ∙ l .inv .owed;
     }
 
 returns-4 : tie.Need-returns-4 Inv-loop μ-loop
@@ -70,14 +70,14 @@ returns-4 c =
     let l = c .before .before .loop in
     let s = c .before .before .before .before .before .args .digits .now in
     let over = c .before .loop-test .left in
-    read-large s (omega arith) (sym (l .inv .good) ∙ passed-all isDigit s (l .i) over) (l .n) (sym (decimal-end s (l .n) (l .i) over) ∙ l .inv .todo) (c .if4 .taken)
+    read-large s (omega arith) (sym (l .inv .good) ∙ passed-all isDigit s (l .i) over) (l .n) (sym (decimal-end s (l .n) (l .i) over) ∙ l .inv .owed) (c .if4 .taken)
 
 returns-5 : tie.Need-returns-5 Inv-loop μ-loop
 returns-5 c =
     let l = c .before .before .loop in
     let s = c .before .before .before .before .before .args .digits .now in
     let over = c .before .loop-test .left in
-    read-good s (omega arith) (sym (l .inv .good) ∙ passed-all isDigit s (l .i) over) (l .n) (sym (decimal-end s (l .n) (l .i) over) ∙ l .inv .todo) (c .if4 .left)
+    read-good s (omega arith) (sym (l .inv .good) ∙ passed-all isDigit s (l .i) over) (l .n) (sym (decimal-end s (l .n) (l .i) over) ∙ l .inv .owed) (c .if4 .left)
 
 pub number-read-spec : {M : Type 1} → statement M
 number-read-spec =

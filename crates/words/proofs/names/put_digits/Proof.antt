@@ -18,7 +18,7 @@ sub-at : tie.Need-sub-at Inv-loop μ-loop
 sub-at c = search needs
 
 loop-holds : tie.Need-loop-holds Inv-loop μ-loop
-loop-holds c = record { inside = omega arith; long = c .before .pre; below = omega arith; todo = digits-start (c .before .args .n) (c .before .args .space .now) (c .before .pre) }
+loop-holds c = record { inside = omega arith; long = c .before .pre; below = omega arith; owed = digits-start (c .before .args .n) (c .before .args .space .now) (c .before .pre) }
 
 digit-requires : tie.Need-digit-requires Inv-loop μ-loop
 digit-requires c κs = search needs
@@ -43,7 +43,7 @@ loop-again c =
       inside = omega arith;
       long = simp length-set (l .inv .long);
       below = fewer-digits (l .m) (l .at) some (l .inv .below);
-      todo = rw x (digits-more (l .space) (l .m) (l .at) (omega arith) some (c .before .loop-test .taken)) ∙ l .inv .todo;
+      owed = rw x (digits-more (l .space) (l .m) (l .at) (omega arith) some (c .before .loop-test .taken)) ∙ l .inv .owed;
     }
 
 digit-requires-2 : tie.Need-digit-requires-2 Inv-loop μ-loop
@@ -59,7 +59,7 @@ returns : tie.Need-returns Inv-loop μ-loop
 returns c =
     let l = c .before .before .loop in
     let x : c .digit2 .result ≡ 48 + l .m = c .digit2 .ensures in
-    (omega arith, rw x (digits-last (l .space) (l .m) (l .at) (omega arith) (omega arith)) ∙ l .inv .todo)
+    (omega arith, rw x (digits-last (l .space) (l .m) (l .at) (omega arith) (omega arith)) ∙ l .inv .owed)
 
 pub put-digits-spec : {M : Type 1} → statement M
 put-digits-spec =

@@ -24,7 +24,7 @@ returns-2 : tie.Need-returns-2 Inv-loop μ-loop
 returns-2 c = many-letters (c .before .before .before .args .name .now) (c .if2 .taken)
 
 loop-holds : tie.Need-loop-holds Inv-loop μ-loop
-loop-holds c = record { inside = omega arith; below = omega arith; good = refl; todo = refl }
+loop-holds c = record { inside = omega arith; below = omega arith; good = refl; owed = refl }
 
 shared-slice-read-code-of : tie.Need-shared-slice-read-code-of Inv-loop μ-loop
 shared-slice-read-code-of c = search needs
@@ -71,7 +71,7 @@ loop-again c =
       inside = omega arith;
       below = rw x (power-more (l .w) (l .i) (c .before .before .before .code-of .result) (l .inv .below) (omega arith));
       good = passes isNameByte s (l .i) (c .before .before .before .before .before .loop-test .taken) one ∙ l .inv .good;
-      todo = rw x (pack-more s (l .w) (l .i) (c .before .before .before .code-of .result) (c .before .before .before .before .before .loop-test .taken) (c .before .before .before .code-of .ensures)) ∙ l .inv .todo;
+      owed = rw x (pack-more s (l .w) (l .i) (c .before .before .before .code-of .result) (c .before .before .before .before .before .loop-test .taken) (c .before .before .before .code-of .ensures)) ∙ l .inv .owed;
     }
 
 sub-power : tie.Need-sub-power Inv-loop μ-loop
@@ -90,7 +90,7 @@ returns-5 : tie.Need-returns-5 Inv-loop μ-loop
 returns-5 c =
     let l = c .before .before .loop in
     let p : c .power .result ≡ 64 ^ (10 - l .i) = c .power .ensures in
-    rw p (pack-end (c .before .before .before .before .before .before .args .name .now) (l .w) (l .i) (omega arith) (omega arith) (c .before .loop-test .left) (l .inv .good) (l .inv .todo))
+    rw p (pack-end (c .before .before .before .before .before .before .args .name .now) (l .w) (l .i) (omega arith) (omega arith) (c .before .loop-test .left) (l .inv .good) (l .inv .owed))
 
 pub word-of-name-spec : {M : Type 1} → statement M
 word-of-name-spec =

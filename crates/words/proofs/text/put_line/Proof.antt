@@ -23,7 +23,7 @@ put-lead-requires : tie.Need-put-lead-requires Inv-loop μ-loop
 put-lead-requires c κs = search needs
 
 loop-holds : tie.Need-loop-holds Inv-loop μ-loop
-loop-holds c = record { inside = omega arith; long = omega arith; room = omega arith; waiting = omega arith; todo = c .before .before .put-lead .ensures .1 .1 }
+loop-holds c = record { inside = omega arith; long = omega arith; room = omega arith; waiting = omega arith; owed = c .before .before .put-lead .ensures .1 .1 }
 
 shared-slice-read-code-of : tie.Need-shared-slice-read-code-of Inv-loop μ-loop
 shared-slice-read-code-of c = search needs
@@ -45,7 +45,7 @@ loop-again c =
     let l = c .before .before .before .before .loop in
     let s = c .before .before .before .before .before .before .before .before .before .before .before .args .line .now in
     let e : codeOf (getD s (l .i) 0) ≡ gap = sym (c .before .code-of .ensures) ∙ c .if1 .taken in
-    record { inside = omega arith; long = omega arith; room = omega arith; waiting = omega arith; todo = left-gap s (l .i) (l .n) (c .before .before .before .loop-test .taken) (l .codes) (l .at) e ∙ l .inv .todo }
+    record { inside = omega arith; long = omega arith; room = omega arith; waiting = omega arith; owed = left-gap s (l .i) (l .n) (c .before .before .before .loop-test .taken) (l .codes) (l .at) e ∙ l .inv .owed }
 
 put-blanks-requires : tie.Need-put-blanks-requires Inv-loop μ-loop
 put-blanks-requires c κs = (omega arith, omega arith)
@@ -69,7 +69,7 @@ loop-again-2 c =
       long = omega (arith, c .before .before .before .before .before .before .put-blanks .kept .1 .0, c .before .before .put-sign .kept .1 .0);
       room = omega (arith, put .0, length-append (blanks (l .n)) (sign x []), length-blanks (l .n), length-sign x []);
       waiting = omega arith;
-      todo = left-sign s (l .i) (l .n) (c .before .before .before .before .before .before .before .before .before .before .before .loop-test .taken) (l .codes) _ (l .at) _ other put ∙ l .inv .todo;
+      owed = left-sign s (l .i) (l .n) (c .before .before .before .before .before .before .before .before .before .before .before .loop-test .taken) (l .codes) _ (l .at) _ other put ∙ l .inv .owed;
     }
 
 same-length : tie.Need-same-length Inv-loop μ-loop
@@ -78,7 +78,7 @@ same-length c = search needs
 returns : tie.Need-returns Inv-loop μ-loop
 returns c =
     let l = c .before .loop in
-    (omega arith, sym (left-end (c .before .before .before .before .before .before .before .before .args .line .now) (l .codes) (l .at) (l .n) (l .i) (c .loop-test .left)) ∙ l .inv .todo)
+    (omega arith, sym (left-end (c .before .before .before .before .before .before .before .before .args .line .now) (l .codes) (l .at) (l .n) (l .i) (c .loop-test .left)) ∙ l .inv .owed)
 
 pub put-line-spec : {M : Type 1} → statement M
 put-line-spec =

@@ -27,7 +27,7 @@ loop-holds c =
       short = text-fits ws (c .before .before .pre .0);
       room = omega arith;
       long = c .before .before .pre .1;
-      todo = said-start ws;
+      owed = said-start ws;
       rest = refl;
     }
 
