@@ -40,7 +40,7 @@ uint64_t galdwist_check(const uint64_t *image, size_t n, uint64_t *place);
 
 /* The correction run: a stream of k bytes on the old library, the new one written to `space`. 1 to 10 where the old one is no library;
  * 19 to 32 where the stream is refused. `value`: words written; the word at fault for 1 to 10; the line for 20 to 31; 0 for 19 and 32.
- * run/Run.antt: running, ranNumber, ranValue, runInto. */
+ * corrections/Run.antt: running, ranNumber, ranValue, runInto. */
 uint64_t galdwist_run(const uint64_t *old, size_t n, const uint8_t *stream, size_t k, uint64_t *space, size_t room, uint64_t *value);
 
 /* The full compile file of a library, GALDWIST_LINE bytes to a line. 1 to 10 where the image is no library; 40 to 43 at a CALL; 44 at a line

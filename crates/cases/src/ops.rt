@@ -110,7 +110,7 @@ fn check(head: Head, words: &[u64]) -> Answer {
     if n * 8 < head.first {
         return Answer::Beyond;
     }
-    let c = library::check(&words[..n]);
+    let c = checks::check(&words[..n]);
     Answer::Numbers(library::checked_number(c), library::checked_place(c), 0, 0)
 }
 

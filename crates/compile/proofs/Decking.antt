@@ -19,8 +19,8 @@ module _ (w : Bool) (ds : List DeckView) (ws rows : List ℕ) (i l n : ℕ) (o :
   pub deck-common : getD rows (i + 3) 0 ≡ 1 → state (On l n) o ≡ deckOf w ds (rowView ws rows i) l n o
   deck-common e = rw (eq-eqb (getD rows (i + 3) 0) 1 e)
 
-  pub deck-normal : (getD rows (i + 3) 0 ≡ 1 → ⊥) → runAt w ds 8 (shownIn ws (getD rows (i + 1) 0) (getD rows (i + 2) 0)) l n o ≡ deckOf w ds (rowView ws rows i) l n o
-  deck-normal d = rw (ne-eqb (getD rows (i + 3) 0) 1 d)
+  pub deck-normal : (getD rows (i + 3) 0 ≡ 1 → ⊥) → (r : State) → r ≡ runAt w ds 8 (shownIn ws (getD rows (i + 1) 0) (getD rows (i + 2) 0)) l n o → r ≡ deckOf w ds (rowView ws rows i) l n o
+  deck-normal d r run = rw (ne-eqb (getD rows (i + 3) 0) 1 d) run
 
 -- the rest of a table
 table-row : (ws rows : List ℕ) (i : ℕ) → i + 3 < length rows → tableView ws (drop i rows) ≡ rowView ws rows i ∷ tableView ws (drop (i + 4) rows)

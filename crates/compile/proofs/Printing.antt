@@ -1,6 +1,5 @@
 -- Columns of a line, one after another. Assumes nothing.
---   column-inside            a column inside the text, whatever stands for one past it
---   left-more, left-all      a text left justified, column by column
+--   Begun, left-..           a text left justified, column by column
 --   name-columns, number-columns, line-whole   the parts of a line put together
 use Prim.Native.Nat.{ℕ, zero, suc, _+_, _-_, _*_, _/_, _%_, _^_, _≤_, _<_}
 use native.Mathlib.Omega.{arith}
@@ -8,19 +7,20 @@ use native.Mathlib.Numerals.{add-one}
 use native.Mathlib.Nat.{pow-suc}
 use mathlib.Core.Path.{_≡_, refl, sym, ap, _∙_, subst}
 use mathlib.Core.Bool.{Bool, true, false, _&&_, not}
-use mathlib.Core.List.{List, [], _∷_, _++_, append-nil, append-assoc}
+use mathlib.Core.List.{List, [], _∷_, _++_, append-assoc}
 use borrow.Author.Tests.{lt-ltb, le-leb}
 use borrow.Rule.Slice.PartMut.{putMid, postOf, midOf, same-len-mid, mid-len}
 use lib.Dec.{T, eqb, ltb, leb, leb→le}
-use lib.ListN.{length, getD, take, drop, set, replicate, length-append, length-drop, length-set, length-take, length-replicate, getD-replicate, drop-of-length-le}
-use lib.Seq.{take-length, take-suc, drop-cons, set-at, length-take-le, getD-take, getD-drop, ext-getD, getD-set-same, getD-set-other, take-at, drop-at, drop-drop}
+use lib.ListN.{length, getD, take, drop, set, replicate, length-append, length-drop, length-set, length-take, length-replicate, getD-replicate, drop-of-length-le, List·getD-eq-default}
+use lib.Seq.{take-all, take-suc, take-suc-set, drop-cons, getD-take, getD-drop, ext-getD, getD-set-same, getD-set-other, take-at, drop-at, drop-drop}
 use Rattle.words.specs.Base.{if_then_else_, all, isNil}
 use Rattle.words.proofs.Tests.{and-left, and-right, true-T}
 use Rattle.words.specs.Display.{blank}
 use Rattle.words.specs.Names.{isNameByte, isName, nameWord, nameOf, isNameWord, nameInto, digits, numeral, numberInto, leftJustified, rightJustified}
 use Rattle.compile.specs.Lines.{ownerName, lineOf}
 
-pub column-inside : (t : List ℕ) (i : ℕ) → i < length t → getD t i 0 ≡ getD t i blank
+-- a column inside the text, whatever stands for one past it
+column-inside : (t : List ℕ) (i : ℕ) → i < length t → getD t i 0 ≡ getD t i blank
 column-inside [] i h = absurd (omega arith)
 column-inside (x ∷ t) zero h = refl
 column-inside (x ∷ t) (suc i) h = column-inside t i (omega arith)
@@ -39,25 +39,35 @@ left-column : (n : ℕ) (t : List ℕ) (i : ℕ) → i < n → getD (leftJustifi
 unfolding leftJustified
 left-column n t i h = getD-take n (t ++ replicate n blank) i 0 h ∙ column-of t n i h
 
--- the first i columns of a text, and what stood behind them
-abbrev pub front : List ℕ → List ℕ → ℕ → List ℕ
-front f t i = take i t ++ drop i f
+-- a field of n columns whose first i are those of the justified text
+abbrev pub Begun : ℕ → List ℕ → List ℕ → ℕ → Type 0
+Begun n t f i = (length f ≡ n) × (take i f ≡ take i (leftJustified n t))
 
-module _ (f t : List ℕ) where
+module _ (n : ℕ) (t f : List ℕ) (i : ℕ) (b : Begun n t f i) where
   abbrev J : List ℕ
-  J = leftJustified (length f) t
+  J = leftJustified n t
 
-  pub left-more : (i : ℕ) → i < length f → set (front f J i) i (getD t i blank) ≡ front f J (i + 1)
-  left-more i h =
-      let inside : i < length J = omega (arith, left-length (length f) t) in
-      rw (← left-column (length f) t i h, add-one i, drop-cons f i 0 h, take-suc J i 0 inside)
-      (set-at (take i J) (getD f i 0) (drop (suc i) f) (getD J i 0) i (length-take-le i J (omega arith)) ∙ sym (append-assoc (take i J) (getD J i 0 ∷ []) (drop (suc i) f)))
+  -- one column more
+  module _ (h : i < n) where
+    left-more : Begun n t (set f i (getD t i blank)) (i + 1)
+    left-more =
+        let v : ℕ = getD t i blank in
+        let inside : i < length J = omega (arith, left-length n t) in
+        let more : take (suc i) (set f i v) ≡ take (suc i) J = take-suc-set f i v (omega arith) ∙ (λ k. b .1 k ++ (sym (left-column n t i h) k ∷ [])) ∙ sym (take-suc J i 0 inside) in
+        (length-set f i v ∙ b .0, rw (add-one i) more)
 
-  pub left-all : front f J (length f) ≡ J
-  left-all =
-      ap (λ (r : List ℕ). take (length f) J ++ r) (drop-of-length-le f {i = length f} (omega arith))
-      ∙ append-nil (take (length f) J)
-      ∙ ap (λ (n : ℕ). take n J) (sym (left-length (length f) t)) ∙ take-length J
+    pub left-copied : i < length t → Begun n t (set f i (getD t i 0)) (i + 1)
+    left-copied k = subst (λ (v : ℕ). Begun n t (set f i v) (i + 1)) (sym (column-inside t i k)) left-more
+
+    pub left-blank : length t ≤ i → Begun n t (set f i blank) (i + 1)
+    left-blank k = subst (λ (v : ℕ). Begun n t (set f i v) (i + 1)) (List·getD-eq-default t blank k) left-more
+
+  -- the same of the field's own length
+  pub left-own : Begun (length f) t f i
+  left-own = (refl, b .1 ∙ ap (λ (m : ℕ). take i (leftJustified m t)) (sym (b .0)))
+
+  pub left-all : n ≤ i → f ≡ leftJustified n t
+  left-all h = sym (take-all i f (omega arith)) ∙ b .1 ∙ take-all i J (omega (arith, left-length n t))
 
 -- a text is justified by its columns
 left-same : (n : ℕ) (s t : List ℕ) → ((i : ℕ) → getD s i blank ≡ getD t i blank) → leftJustified n s ≡ leftJustified n t

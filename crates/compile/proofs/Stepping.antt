@@ -1,17 +1,17 @@
 -- The walk as it is carried out, card by card. Assumes nothing.
 --   found-is                                              a name's deck is that of its row
 --   visit-passed, visit-text, visit-stopped, visit-opened one card
---   visit-counted                                         one that is only counted
+--   visit-starless                                        one whose line begins with no star
 --   run-past, run-end, run-on, run-halt                   the cards from a place up to another
 use Prim.Native.Nat.{ℕ, zero, suc, _+_, _-_, _≤_, _<_}
 use native.Mathlib.Omega.{arith}
 use native.Mathlib.Numerals.{add-one}
 use mathlib.Core.Path.{_≡_, refl, sym, ap, _∙_}
-use mathlib.Core.Bool.{Bool, true, false, _&&_, not}
+use mathlib.Core.Bool.{Bool, true, false}
 use mathlib.Core.List.{List, [], _∷_}
 use borrow.Author.Tests.{ltb-true, eqb-false, ne-eqb}
 use lib.Dec.{eqb, ltb}
-use lib.ListN.{length, getD}
+use lib.ListN.{length}
 use Rattle.words.specs.Base.{if_then_else_}
 use Rattle.lines.specs.Directive.{callOf}
 use Rattle.lines.specs.declared.Call.{Call}
@@ -21,7 +21,7 @@ use Rattle.library.specs.declared.Seen.{Seen}
 use Rattle.image.specs.Places.{seenAt, lineIn, starAt}
 use Rattle.compile.specs.View.{Shown, DeckView}
 use Rattle.compile.specs.Walk.{Found, missing, notCommon, common, lookIn, lookUp}
-use Rattle.compile.specs.TableView.{shown, shownOf, consIf, shownIn, tableView}
+use Rattle.compile.specs.TableView.{shownAs, shownOf, consIf, shownIn, tableView}
 use Rattle.compile.specs.declared.Stop.{Stop}
 use Rattle.compile.specs.declared.Stop.the-variants.{Deep, Many}
 use Rattle.compile.specs.declared.walk.Walked.{Walked}
@@ -118,49 +118,32 @@ module _ (w : Bool) (ws rows : List ℕ) (d : ℕ) (s : Seen) (l n : ℕ) (o : L
       visit-acts w ws rows d (shownOf ws s) l n o (s .active) active
       ∙ ap (actOf w ws rows d (shownOf ws s) l n o) (ap (λ (x : List ℕ). askedOf rows x d n) (sym said) ∙ sym asked ∙ e)
 
-  pub visit-text : k ≡ Text → (name : ℕ) → name ≡ getD ws (s .owner + 1) 0 → putOf w (shown line name s) l n o ≡ visitOf w (tableView ws rows) d (s .active) (shownOf ws s) l n o
+  pub visit-text : k ≡ Text → (r : State) → r ≡ putOf w (shownAs ws line s) l n o → r ≡ visitOf w (tableView ws rows) d (s .active) (shownOf ws s) l n o
   unfolding shownOf
-  visit-text e name named = (λ i. putOf w (shown (said i) (named i) s) l n o) ∙ sym (seen-acts Text e)
+  visit-text e r put = put ∙ ap (λ (x : List ℕ). putOf w (shownAs ws x s) l n o) said ∙ sym (seen-acts Text e)
 
   pub visit-stopped : (j : Stop) → k ≡ Stopped j → state (Halted j (s .owner) (s .seq)) o ≡ visitOf w (tableView ws rows) d (s .active) (shownOf ws s) l n o
   unfolding shownOf
   visit-stopped j e = sym (seen-acts (Stopped j) e)
 
-  pub visit-opened : (f t : ℕ) → k ≡ Opened f t → runAt w (tableView ws rows) (d - 1) (shownIn ws f t) l (n + 1) o ≡ visitOf w (tableView ws rows) d (s .active) (shownOf ws s) l n o
-  visit-opened f t e = sym (seen-acts (Opened f t) e)
+  pub visit-opened : (f t : ℕ) → k ≡ Opened f t → (r : State) → r ≡ runAt w (tableView ws rows) (d - 1) (shownIn ws f t) l (n + 1) o → r ≡ visitOf w (tableView ws rows) d (s .active) (shownOf ws s) l n o
+  visit-opened f t e r run = run ∙ sym (seen-acts (Opened f t) e)
 
--- a line that begins with no star is text, and where it is not written it need not be known
-put-unseen : (s : Seen) (line line′ : List ℕ) (name name′ l n : ℕ) (o : List ℕ) → putOf false (shown line name s) l n o ≡ putOf false (shown line′ name′ s) l n o
-unfolding putOf
-put-unseen s line line′ name name′ l n o = refl
-
-module _ (w : Bool) (ws rows : List ℕ) (d : ℕ) (s : Seen) (l n : ℕ) (o : List ℕ) (active : s .active ≡ true)
-    (b : Bool) (is : b ≡ (not w && not (starAt ws (s .text)))) (only : b ≡ true) where
-  both : (x y : Bool) → b ≡ (not x && not y) → (x ≡ false) × (y ≡ false)
-  both true y e = absurd (let z : _≡_ {A = ℕ} 0 1 = cc in omega arith)
-  both false true e = absurd (let z : _≡_ {A = ℕ} 0 1 = cc in omega arith)
-  both false false e = (refl, refl)
-
+-- a line that begins with no star is text
+module _ (w : Bool) (ws rows : List ℕ) (d : ℕ) (s : Seen) (l n : ℕ) (o : List ℕ) (active : s .active ≡ true) (none : starAt ws (s .text) ≡ false) where
   is-text : Text ≡ askedOf rows (lineIn ws (s .text) (s .next)) d n
   unfolding askedOf
   is-text =
-      let none = line-starless ws (s .text) (s .next) (both w (starAt ws (s .text)) is .1) in
-      ap (λ (k : Call). askedBy rows k d n) (call-starless (lineIn ws (s .text) (s .next)) none)
+      ap (λ (k : Call). askedBy rows k d n) (call-starless (lineIn ws (s .text) (s .next)) (line-starless ws (s .text) (s .next) none))
 
-  pub visit-counted : (line : List ℕ) (name : ℕ) → putOf w (shown line name s) l n o ≡ visitOf w (tableView ws rows) d (s .active) (shownOf ws s) l n o
-  visit-counted line name =
-      let u : w ≡ false = both w (starAt ws (s .text)) is .0 in
-      let said : List ℕ = lineIn ws (s .text) (s .next) in
-      let named : ℕ = getD ws (s .owner + 1) 0 in
-      ap (λ (v : Bool). putOf v (shown line name s) l n o) u
-      ∙ put-unseen s line said name named l n o
-      ∙ ap (λ (v : Bool). putOf v (shown said named s) l n o) (sym u)
-      ∙ visit-text w ws rows d s l n o active said refl Text is-text refl named refl
+  pub visit-starless : (r : State) → r ≡ putOf w (shownOf ws s) l n o → r ≡ visitOf w (tableView ws rows) d (s .active) (shownOf ws s) l n o
+  unfolding shownOf
+  visit-starless r put = visit-text w ws rows d s l n o active (lineIn ws (s .text) (s .next)) refl Text is-text refl r put
 
 -- a deck is opened with levels and calls left
-pub opened-some : (rows line : List ℕ) (d n f t : ℕ) → askedOf rows line d n ≡ Opened f t → (0 < d) × (n < 4096)
+pub opened-some : (rows line : List ℕ) (d n f t : ℕ) (k : Asked) → k ≡ askedOf rows line d n → k ≡ Opened f t → (0 < d) × (n < 4096)
 unfolding askedOf
-opened-some rows line d n f t e = by-call (callOf line) e
+opened-some rows line d n f t k asked e = by-call (callOf line) (sym asked ∙ e)
   where
     by-tests : (x y : ℕ) (b m : Bool) → eqb d 0 ≡ b → ltb n 4096 ≡ m → (if b then Stopped Deep else if m then Opened x y else Stopped Many) ≡ Opened f t → (0 < d) × (n < 4096)
     by-tests x y true m p q z = absurd (let r : _≡_ {A = ℕ} 0 1 = cc in omega arith)

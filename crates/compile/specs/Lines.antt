@@ -1,15 +1,10 @@
 -- The compile file as its parts write it, by counts and places; proofs/ has that it is the file of Walk.antt and Compile.antt.
---   a line      columnAt, ownerName, lineOf
+--   a line      ownerName, lineOf
 use Prim.Native.Nat.{ℕ}
 use mathlib.Core.List.{List, [], _∷_, _++_}
-use lib.ListN.{getD}
 use Rattle.words.specs.Base.{if_then_else_}
 use Rattle.words.specs.Display.{blank}
 use Rattle.words.specs.Names.{nameOf, isNameWord, numeral, leftJustified, rightJustified}
-
--- the byte in a column of a text, blank past its end
-abbrev pub columnAt : List ℕ → ℕ → ℕ
-columnAt text i = getD text i blank
 
 -- the letters of an owner's word, none where it is no name's
 abbrev pub ownerName : ℕ → List ℕ

@@ -1,5 +1,5 @@
 -- What a compile file sees of an image by the places in it; proofs/ has that it is the view of View.antt.
---   a card    shown, shownOf
+--   a card    shown, shownAs, shownOf
 --   cards     consIf, shownUpTo, shownIn
 --   decks     rowView, tableView
 use Prim.Native.Nat.{ℕ, _+_}
@@ -16,8 +16,11 @@ use Rattle.compile.specs.View.{Shown, DeckView}
 abbrev pub shown : List ℕ → ℕ → Seen → Shown
 shown line name c = record { line = line; owner = c .owner; name = name; seq = c .seq }
 
+abbrev pub shownAs : List ℕ → List ℕ → Seen → Shown
+shownAs ws line c = shown line (getD ws (c .owner + 1) 0) c
+
 unfoldable pub shownOf : List ℕ → Seen → Shown
-shownOf ws c = shown (lineIn ws (c .text) (c .next)) (getD ws (c .owner + 1) 0) c
+shownOf ws c = shownAs ws (lineIn ws (c .text) (c .next)) c
 
 -- CARDS: the active ones up to a place
 abbrev pub consIf : Bool → Shown → List Shown → List Shown

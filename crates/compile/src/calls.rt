@@ -10,8 +10,6 @@ use image::ROW;
 use image::TO;
 use lines::Call;
 
-// YANK$$$ as a name's word
-const RESERVED: u64 = 0o31011613535353000000;
 // "more than 4,096 calls"
 const MOST_CALLS: usize = 4096;
 
@@ -34,7 +32,7 @@ pub(crate) enum Asked {
 fn find_row(table: &[u64], w: u64) -> Place
     ensures { λ r. ⌜ r ≡ findRow w (now (table .entry)) ⌝ }
 {
-    if w == RESERVED {
+    if w == library::reserved_word() {
         return Place::Normal;
     }
     let mut i = 0;

@@ -77,7 +77,7 @@ pub fn compile(image: &[u64], out: &mut [u8]) -> Compiled
     ensures answer { λ r. ⌜ r ≡ compiled (compiling (now (image .entry)) (length (now (out .entry)))) ⌝ }
     ensures space { λ _. ⌜ now (out .exit) ≡ compileInto (compiling (now (image .entry)) (length (now (out .entry)))) (now (out .entry)) ⌝ }
 {
-    match library::check(image) {
+    match checks::check(image) {
         Checked::Sound => compile_sound(image, out),
         Checked::Refused(fault, place) => Compiled::Library(fault, place),
     }

@@ -1,9 +1,9 @@
 // A line of the compile file (01, "The compile file").
 ghost use mathlib.Core.Path.{_≡_};
-ghost use Prim.Native.Nat.{_<_};
+ghost use Prim.Native.Nat.{_≤_, _<_};
 ghost use lib.ListN.{length};
 ghost use Rattle.words.specs.Names.{leftJustified};
-ghost use Rattle.compile.specs.Lines.{columnAt, lineOf};
+ghost use Rattle.compile.specs.Lines.{lineOf};
 
 // "columns 1-72 of text .., a blank, owner name left justified in 9 columns, sequence number right justified in 8, byte 10"
 const TEXT: usize = 72;
@@ -22,19 +22,25 @@ const BLANK: u8 = b' ';
 
 const NEWLINE: u8 = 10;
 
-// The byte in a column of a text, blank past its end.
-fn column(text: &[u8], i: usize) -> u8
-    ensures { λ r. ⌜ r ≡ columnAt (now (text .entry)) i ⌝ }
+// How many columns of a text stand in a field.
+fn least(text: usize, field: usize) -> usize
+    ensures { λ r. ⌜ (r ≤ text) × ((r ≤ field) × (r < field → r ≡ text)) ⌝ }
 {
-    if i < text.len() { text[i] } else { BLANK }
+    if text < field { text } else { field }
 }
 
+// Bytes as they stand, then blanks: one choice for the field, none for each column.
 fn put_left(text: &[u8], field: &mut [u8])
     ensures { λ _. ⌜ now (field .exit) ≡ leftJustified (length (now (field .entry))) (now (text .entry)) ⌝ }
 {
+    let n = least(text.len(), field.len());
     let mut i = 0;
+    while i < n {
+        field[i] = text[i];
+        i += 1;
+    }
     while i < field.len() {
-        field[i] = column(text, i);
+        field[i] = BLANK;
         i += 1;
     }
 }

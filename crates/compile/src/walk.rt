@@ -1,11 +1,8 @@
 // The walk over decks and calls (01, "The compile file"; rows 40 to 44).
 ghost use mathlib.Core.Path.{_≡_};
 ghost use Prim.Native.Nat.{_+_, _<_};
-ghost use mathlib.Core.Bool.{_&&_, not};
 ghost use lib.ListN.{length};
-ghost use Rattle.image.specs.Places.{starAt};
-ghost use Rattle.compile.specs.View.{Shown};
-ghost use Rattle.compile.specs.TableView.{shown, shownOf, shownIn, rowView, tableView};
+ghost use Rattle.compile.specs.TableView.{shownAs, shownOf, shownIn, rowView, tableView};
 ghost use Rattle.compile.specs.Steps.{state, putOf, visitOf, runAt, deckOf, decksOf};
 use crate::Stop;
 use crate::calls::Asked;
@@ -35,16 +32,16 @@ pub(crate) enum Walked {
 
 // The line of a text card, in its own stretch of the space, where the walk writes.
 fn put(
+    image: &[u64],
     line: &[u8],
-    name: u64,
     c: Seen,
     writes: bool,
     out: &mut [u8],
     lines: usize,
     calls: usize,
 ) -> Walked
-    requires { ⌜ c .seq < 262144 ⌝ }
-    ensures { λ r. ⌜ state r (now (out .exit)) ≡ putOf writes (shown (now (line .entry)) name c) lines calls (now (out .entry)) ⌝ }
+    requires { ⌜ (c .seq < 262144) × (c .owner < 65536) ⌝ }
+    ensures { λ r. ⌜ state r (now (out .exit)) ≡ putOf writes (shownAs (now (image .entry)) (now (line .entry)) c) lines calls (now (out .entry)) ⌝ }
 {
     if out.len() / LINE <= lines {
         return Walked::Halted(Stop::Space, c.owner, c.seq);
@@ -53,18 +50,29 @@ fn put(
         return Walked::On(lines + 1, calls);
     }
     let at = lines * LINE;
+    let name = word_at(image, c.owner as usize + 1);
     put_line(line, name, c.seq, &mut out[at..at + LINE]);
     Walked::On(lines + 1, calls)
 }
 
-// Whether a card is a line to count and nothing else: it is no CALL, as its line does not begin with *.
-fn only_counted(image: &[u64], c: Seen, writes: bool) -> bool
-    ensures { λ r. ⌜ r ≡ (not writes && not (starAt (now (image .entry)) (c .text))) ⌝ }
+// A card whose line does not begin with *, and so is no CALL: where the walk only counts, the line need not be known.
+fn put_text(
+    image: &[u64],
+    c: Seen,
+    writes: bool,
+    out: &mut [u8],
+    lines: usize,
+    calls: usize,
+) -> Walked
+    requires { ⌜ (c .seq < 262144) × (c .owner < 65536) ⌝ }
+    ensures { λ r. ⌜ state r (now (out .exit)) ≡ putOf writes (shownOf (now (image .entry)) c) lines calls (now (out .entry)) ⌝ }
 {
-    if writes {
-        return false;
+    if !writes {
+        return put(image, b"", c, writes, out, lines, calls);
     }
-    !star_at(image, c.text)
+    let mut line = [0u8; COLUMNS];
+    let n = line_of(image, c.text, c.next, &mut line);
+    put(image, &line[..n], c, writes, out, lines, calls)
 }
 
 // One card of a deck, with so many levels left.
@@ -84,16 +92,13 @@ fn step(
     if !c.active {
         return Walked::On(lines, calls);
     }
-    if only_counted(image, c, writes) {
-        return put(b"", 0, c, writes, out, lines, calls);
+    if !star_at(image, c.text) {
+        return put_text(image, c, writes, out, lines, calls);
     }
     let mut line = [0u8; COLUMNS];
     let n = line_of(image, c.text, c.next, &mut line);
     match asks(table, &line[..n], depth, calls) {
-        Asked::Text => {
-            let name = word_at(image, c.owner as usize + 1);
-            put(&line[..n], name, c, writes, out, lines, calls)
-        }
+        Asked::Text => put(image, &line[..n], c, writes, out, lines, calls),
         Asked::Stopped(k) => Walked::Halted(k, c.owner, c.seq),
         Asked::Opened(from, to) => walk(
             image,

@@ -20,13 +20,13 @@ use Rattle.library.specs.Sound.{Sound}
 use Rattle.library.proofs.Each.{and-parts}
 use Rattle.library.proofs.CheckSound.{check-sound}
 use Rattle.library.proofs.EncodeCheck.{encode-check}
-use Rattle.run.specs.Step.{State, Step, went, refused, start, step}
-use Rattle.run.specs.Run.{Steps, ended, stopped, onward, steps, updated, notUpdated, fitted, update, Running, newLibrary, badLibrary, badStream, fromUpdated, fromChecked, running}
-use Rattle.run.specs.declared.Why.the-variants.{Stream, Space}
-use Rattle.run.specs.Cut.{beginsUnit, andAnew}
-use Rattle.run.proofs.Went.{Ended}
-use Rattle.run.proofs.StepsCut.{steps-cut}
-use Rattle.run.proofs.Kept.{steps-sound, sound-short}
+use Rattle.corrections.specs.Step.{State, Step, went, refused, start, step}
+use Rattle.corrections.specs.Run.{Steps, ended, stopped, onward, steps, updated, notUpdated, fitted, update, Running, newLibrary, badLibrary, badStream, fromUpdated, fromChecked, running}
+use Rattle.corrections.specs.declared.Why.the-variants.{Stream, Space}
+use Rattle.corrections.specs.Cut.{beginsUnit, andAnew}
+use Rattle.corrections.proofs.Went.{Ended}
+use Rattle.corrections.proofs.StepsCut.{steps-cut}
+use Rattle.corrections.proofs.Kept.{steps-sound, sound-short}
 use Rattle.demands.specs.Cut.{whole, isCut, counted, goOn, runParts, B3}
 
 -- THE ANSWER OF LINES, where there is room for every library

@@ -20,10 +20,10 @@ use Rattle.library.specs.Yanks.{active, targets, yanksOf, settledYanks, yanked}
 use Rattle.words.proofs.Tests.{and-both}
 use Rattle.library.proofs.CheckSound.{fresh-sound}
 use Rattle.library.proofs.EncodeCheck.{encode-check}
-use Rattle.run.specs.Step.{start, find, step}
-use Rattle.run.specs.Run.{steps, notUpdated, fitted, update, Running, badStream, fromUpdated, fromChecked, running}
-use Rattle.run.specs.declared.Why.the-variants.{Stream, Nowhere}
-use Rattle.run.specs.Cut.{beginsUnit}
+use Rattle.corrections.specs.Step.{start, find, step}
+use Rattle.corrections.specs.Run.{steps, notUpdated, fitted, update, Running, badStream, fromUpdated, fromChecked, running}
+use Rattle.corrections.specs.declared.Why.the-variants.{Stream, Nowhere}
+use Rattle.corrections.specs.Cut.{beginsUnit}
 use Rattle.compile.specs.Compile.{compiling}
 use Rattle.compile.specs.View.{view}
 use Rattle.compile.specs.Walk.{printed, lookUp}

@@ -13,14 +13,14 @@ use Rattle.library.specs.Sound.{Sound}
 use Rattle.library.proofs.Growth.{growth-refl}
 use Rattle.library.proofs.Rollback.{allActs, OwnCard, TakesBack}
 use Rattle.library.proofs.Acts.{names-take-back}
-use Rattle.run.specs.Step.{State, start, withEntry}
-use Rattle.run.specs.Run.{ended, steps}
-use Rattle.run.specs.Units.{setsOf, yankedNames, isYankingSet}
-use Rattle.run.proofs.Went.{ended-is}
-use Rattle.run.proofs.YankingSet.{actsOn, Yanking, YankedBySet, yanking-ended, sets-names}
-use Rattle.run.proofs.Updates.{steps-growth, steps-decks}
-use Rattle.run.proofs.SameDecks.{HasDecks}
-use Rattle.run.proofs.Kept.{steps-sound}
+use Rattle.corrections.specs.Step.{State, start, withEntry}
+use Rattle.corrections.specs.Run.{ended, steps}
+use Rattle.corrections.specs.Units.{setsOf, yankedNames, isYankingSet}
+use Rattle.corrections.proofs.Went.{ended-is}
+use Rattle.corrections.proofs.YankingSet.{actsOn, Yanking, YankedBySet, yanking-ended, sets-names}
+use Rattle.corrections.proofs.Updates.{steps-growth, steps-decks}
+use Rattle.corrections.proofs.SameDecks.{HasDecks}
+use Rattle.corrections.proofs.Kept.{steps-sound}
 use Rattle.compile.specs.View.{view}
 use Rattle.compile.proofs.ViewBack.{takenBack, view-back}
 use Rattle.demands.specs.Demands.{LibraryBack}

@@ -4,7 +4,7 @@ use Rattle.words.proofs.NameTrip.{name-of-word, word-of-its-name, read-of-writt
 use Rattle.packing.proofs.PackTrip.{unpack-packed, pack-unpacked, packed-accepted, unpacked-accepted, packed-length, unpacked-length, words-eights, eights-words}
 use Rattle.library.proofs.Exact.{check-exact, encode-once}
 use Rattle.library.proofs.YankedUnique.{yanked-solves, yanked-unique}
-use Rattle.run.proofs.Kept.{run-passes, run-keeps, run-idle}
+use Rattle.corrections.proofs.Kept.{run-passes, run-keeps, run-idle}
 use Rattle.demands.specs.Promises.{Promises}
 use Rattle.demands.proofs.Answers.{inactive-text}
 use Rattle.demands.proofs.Shown.{all-hold}

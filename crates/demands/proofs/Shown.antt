@@ -8,8 +8,8 @@ use Rattle.library.specs.Check.{check}
 use Rattle.library.specs.Image.{cardWords, encode, withinLimits}
 use Rattle.library.specs.Library.{stream, entryOf, deckNames, deckLine}
 use Rattle.library.specs.Yanks.{active, targets, yanksOf, settledYanks, yanked}
-use Rattle.run.specs.Run.{update, running}
-use Rattle.run.specs.Step.{find, step}
+use Rattle.corrections.specs.Run.{update, running}
+use Rattle.corrections.specs.Step.{find, step}
 use Rattle.compile.specs.Compile.{compiling, program}
 use Rattle.compile.specs.View.{view}
 use Rattle.compile.specs.Walk.{printed, lookUp}

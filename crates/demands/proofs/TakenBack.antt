@@ -14,12 +14,12 @@ use Rattle.library.specs.Sound.{Sound}
 use Rattle.library.proofs.CheckSound.{check-sound}
 use Rattle.library.proofs.EncodeCheck.{encode-check}
 use Rattle.library.proofs.Growth.{growth-refl}
-use Rattle.run.specs.Run.{updated, update, newLibrary, running}
-use Rattle.run.specs.Units.{setsOf, yankedNames, onlySets, isYankingSet}
-use Rattle.run.proofs.StepSound.{update-sound}
-use Rattle.run.proofs.RunFrom.{RanFrom, run-from, good-is}
-use Rattle.run.proofs.Updates.{EndsIn, update-ends, update-growth, update-decks}
-use Rattle.run.proofs.YankingSet.{yanking-sets, sets-names}
+use Rattle.corrections.specs.Run.{updated, update, newLibrary, running}
+use Rattle.corrections.specs.Units.{setsOf, yankedNames, onlySets, isYankingSet}
+use Rattle.corrections.proofs.StepSound.{update-sound}
+use Rattle.corrections.proofs.RunFrom.{RanFrom, run-from, good-is}
+use Rattle.corrections.proofs.Updates.{EndsIn, update-ends, update-growth, update-decks}
+use Rattle.corrections.proofs.YankingSet.{yanking-sets, sets-names}
 use Rattle.compile.specs.View.{view}
 use Rattle.compile.specs.Compile.{compileView, compiling, ofWalk}
 use Rattle.demands.specs.Demands.{Runs, noRun, oneRun, setsIn, TakenBack, B1, B2}

@@ -12,8 +12,8 @@ use Rattle.lines.specs.Directive.{lines}
 use Rattle.lines.specs.LineEnds.{endsLine}
 use Rattle.library.specs.Library.{Library}
 use Rattle.library.specs.Image.{encode}
-use Rattle.run.specs.Run.{Running, newLibrary, badLibrary, badStream, running}
-use Rattle.run.specs.Cut.{beginsUnit}
+use Rattle.corrections.specs.Run.{Running, newLibrary, badLibrary, badStream, running}
+use Rattle.corrections.specs.Cut.{beginsUnit}
 
 -- the stream that was cut into these parts
 abbrev pub whole : List (List ℕ) → List ℕ

@@ -10,7 +10,7 @@ use Rattle.words.specs.Base.{bytes, all, same}
 use Rattle.library.specs.Library.{fresh}
 use Rattle.library.specs.Image.{encode}
 use Rattle.library.specs.Check.{faultNumber}
-use Rattle.run.specs.Run.{Running, newLibrary, badLibrary, badStream, running, whyNumber}
+use Rattle.corrections.specs.Run.{Running, newLibrary, badLibrary, badStream, running, whyNumber}
 use Rattle.demands.specs.Shown.{streamOf, three, lineA3, lineB, compileOf, wrote, refusedWith}
 use Rattle.demands.specs.Cut.{whole, isCut, runParts}
 

@@ -15,9 +15,9 @@ use Rattle.library.specs.Check.{good, check}
 use Rattle.library.specs.Growth.{sameNames}
 use Rattle.library.specs.Alike.{Alike}
 use Rattle.library.specs.Sound.{Sound}
-use Rattle.run.specs.Step.{State, start}
-use Rattle.run.specs.Run.{ended, steps, newLibrary, running}
-use Rattle.run.specs.Units.{gather, setsOf, yankedNames, onlySets, isYankingSet}
+use Rattle.corrections.specs.Step.{State, start}
+use Rattle.corrections.specs.Run.{ended, steps, newLibrary, running}
+use Rattle.corrections.specs.Units.{gather, setsOf, yankedNames, onlySets, isYankingSet}
 use Rattle.compile.specs.View.{view}
 use Rattle.compile.specs.Compile.{compiling}
 

@@ -12,8 +12,8 @@ use Rattle.words.specs.Base.{all, same, member}
 use Rattle.lines.specs.Directive.{lines}
 use Rattle.library.specs.Library.{Library, fresh}
 use Rattle.library.specs.Image.{encode}
-use Rattle.run.specs.Run.{Running, newLibrary, badLibrary, badStream, running}
-use Rattle.run.specs.Units.{yankedNames, onlySets, isYankingSet}
+use Rattle.corrections.specs.Run.{Running, newLibrary, badLibrary, badStream, running}
+use Rattle.corrections.specs.Units.{yankedNames, onlySets, isYankingSet}
 use Rattle.compile.specs.Walk.{walked, halted}
 use Rattle.compile.specs.Compile.{Compiling, ofWalk, ofLibrary, compiling, fileOf}
 use Rattle.demands.specs.Shown.{streamOf, lineA, lineA3, lineB, wrote}

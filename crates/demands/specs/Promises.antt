@@ -5,7 +5,7 @@ use Rattle.words.specs.TextTrip.{SaysWritten, WrittenIsText, WrittenFits, Writt
 use Rattle.words.specs.NameTrip.{NameOfWord, WordOfItsName, ReadOfWritten}
 use Rattle.packing.specs.PackTrip.{UnpackPacked, PackUnpacked, PackedAccepted, UnpackedAccepted, PackedLength, UnpackedLength, WordsEights, EightsWords}
 use Rattle.library.specs.Exact.{CheckExact, EncodeOnce, YankedSolves, YankedUnique}
-use Rattle.run.specs.Kept.{R4, R5, RunIdle}
+use Rattle.corrections.specs.Kept.{R4, R5, RunIdle}
 use Rattle.demands.specs.Demands.{B1, B2, R6}
 use Rattle.demands.specs.Cut.{B3}
 use Rattle.demands.specs.Shown.{AllHold}

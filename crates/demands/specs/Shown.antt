@@ -17,8 +17,8 @@ use Rattle.library.specs.Library.{Library, fresh}
 use Rattle.library.specs.Image.{encode}
 use Rattle.library.specs.Check.{Checking, good, bad, check}
 use Rattle.library.specs.declared.Fault.{Fault}
-use Rattle.run.specs.Run.{Running, newLibrary, badLibrary, badStream, running, whyNumber}
-use Rattle.run.specs.declared.Why.{Why}
+use Rattle.corrections.specs.Run.{Running, newLibrary, badLibrary, badStream, running, whyNumber}
+use Rattle.corrections.specs.declared.Why.{Why}
 use Rattle.compile.specs.Compile.{Compiling, compiling, compiled, compileInto, compiledNumber, compiledFirst, compiledSecond, program}
 use Rattle.compile.specs.declared.Compiled.{Compiled}
 

@@ -3,7 +3,7 @@ ghost use mathlib.Core.Path.{_≡_};
 ghost use lib.ListN.{length};
 ghost use Rattle.keeper.specs.Keeper.{freshing, freshInto, begunNumber, begunValue, listing, naming, told, showInto, toldNumber, toldValue};
 ghost use Rattle.library.specs.Check.{check, checked, checkedNumber, checkedPlace};
-ghost use Rattle.run.specs.Run.{running, ran, runInto, ranNumber, ranValue};
+ghost use Rattle.corrections.specs.Run.{running, ran, runInto, ranNumber, ranValue};
 ghost use Rattle.compile.specs.Compile.{compiling, compiled, compileInto, compiledNumber, compiledFirst, compiledSecond};
 ghost use Rattle.packing.specs.Pack.{packingEights, unpackingEights, packEightsInto, unpackEightsInto, packingNumber, packingValue};
 
@@ -37,7 +37,7 @@ pub extern "C" fn galdwist_check(image: &[u64], place: &mut u64) -> u64
     ensures number { λ r. ⌜ r ≡ checkedNumber (checked (check (now (image .entry)))) ⌝ }
     ensures value { λ _. ⌜ now (place .exit) ≡ checkedPlace (checked (check (now (image .entry)))) ⌝ }
 {
-    let answer = library::check(image);
+    let answer = checks::check(image);
     *place = library::checked_place(answer);
     library::checked_number(answer)
 }

@@ -2,7 +2,7 @@
 --   zeros-zero, clear-more, clear-all                                     no flag, no card
 --   Linking, link-start, link-more, link-end    each card goes ahead of its owner's others
 --   Following, follow-start, follow-more, follow-end    one owner's cards
---   top-more, top-end, taken-words                                    owners from the highest down
+--   top-more, top-end, top-start, taken-words                         owners from the highest down
 use Prim.Native.Nat.{ℕ, suc, _+_, _-_, _≤_, _<_}
 use native.Mathlib.Omega.{arith}
 use native.Mathlib.Numerals.{add-one}
@@ -202,6 +202,10 @@ top-more d ws n now after h e =
 
 pub top-end : (d ws : List ℕ) (n : ℕ) (now : List ℕ) → n ≤ 0 → fromTop d ws n now ≡ now
 top-end d ws n now h = let z : n ≡ 0 = omega arith in ap (λ (k : ℕ). fromTop d ws k now) z
+
+-- from no flag on
+pub top-start : (d ws : List ℕ) (n size : ℕ) (now after : List ℕ) → after ≡ fromTop d ws n now → now ≡ zeros size → after ≡ fromTop d ws n (zeros size)
+top-start d ws n size now after e z = e ∙ ap (fromTop d ws n) z
 
 -- no more words than a library may have
 pub taken-words : (ws : List ℕ) → take (if leb (length ws) 65536 then length ws else 65536) ws ≡ take 65536 ws

@@ -23,7 +23,7 @@ use Rattle.lines.specs.declared.NameStep.the-variants.{Name, End}
 use Rattle.lines.proofs.Walking.{namesFrom, names-none, names-more, yank-names}
 use Rattle.library.specs.Library.{entryFrom, entryOf}
 use Rattle.library.specs.Yanks.{isYank}
-use Rattle.library.proofs.Showing.{no-true}
+use Rattle.library.proofs.Anys.{no-true}
 use Rattle.image.specs.Places.{textAt, nextAt, lineIn}
 use Rattle.image.specs.Flags.{inForce, namesIn, mark, marked, acted}
 

@@ -21,7 +21,7 @@ use Rattle.image.specs.declared.decks.Title.{Title}
 use Rattle.image.specs.declared.decks.Title.the-variants.{Not, Deck, Common}
 use Rattle.library.specs.Library.{DeckLine, notDeck, badDeck, deckOf}
 use Rattle.library.specs.Check.{cardsPlace}
-use Rattle.library.specs.Rows.{deckLineOf}
+use Rattle.library.specs.Asked.{deckLineOf}
 use Rattle.library.specs.declared.DeckLine.{DeckLine as DeckAnswer}
 use Rattle.library.specs.declared.DeckLine.the-variants.{NotDeck, BadDeck, Deck as DeckOf, Common as CommonOf}
 use Rattle.image.specs.Places.{nextAt, seenAt, named, titleOf, titleIn, isTitle, deckEnd, rowOf, rowsIn, tableOf, tableInto, Tables}

@@ -1,6 +1,6 @@
 -- Which lines may begin with a star, by their first word alone. Assumes nothing.
 --   line-starless     a line whose first word has another code first does not
---   title-starless    nor is it a deck card's
+--   deck-starless     nor is it a deck card's
 use Prim.Native.Nat.{ℕ, zero, suc, _+_, _-_, _/_, _%_, _^_, _<_}
 use native.Mathlib.Omega.{arith}
 use mathlib.Core.Path.{_≡_, refl, sym, ap, _∙_}
@@ -16,9 +16,9 @@ use Rattle.words.proofs.Charted.{code-letter}
 use Rattle.words.proofs.Reading.{word-at}
 use Rattle.lines.specs.Directive.{starts, kindOfLine}
 use Rattle.library.specs.Library.{deckLine}
-use Rattle.library.specs.declared.Seen.{Seen}
-use Rattle.image.specs.declared.decks.Title.the-variants.{Not}
-use Rattle.image.specs.Places.{textOf, lineIn, starAt, titleIn}
+use Rattle.library.specs.Asked.{deckLineOf}
+use Rattle.library.specs.declared.DeckLine.the-variants.{NotDeck}
+use Rattle.image.specs.Places.{textOf, lineIn, starAt}
 
 -- THE FIRST COLUMN of what codes stand for
 star-code : codeOf star ≡ 0o47
@@ -73,6 +73,6 @@ line-starless ws from to none = go (leb to (length ws))
     go false = refl
 
 -- A DECK CARD
-pub title-starless : (ws : List ℕ) (c : Seen) → starAt ws (c .text) ≡ false → Not ≡ titleIn ws c
-unfolding titleIn deckLine kindOfLine
-title-starless ws c none = rw (line-starless ws (c .text) (c .next) none)
+pub deck-starless : (ws : List ℕ) (from to : ℕ) → starAt ws from ≡ false → NotDeck ≡ deckLineOf (deckLine (lineIn ws from to))
+unfolding deckLine kindOfLine
+deck-starless ws from to none = rw (line-starless ws from to none)

@@ -23,14 +23,14 @@ use Rattle.library.specs.Library.{Byte, Card, deckLine, history}
 use Rattle.library.specs.Yanks.{lastSays, active}
 use Rattle.library.specs.Image.{bit, byteBits, cardWords}
 use Rattle.library.specs.Check.{isLastWord, rawBytes, used, Fields, fieldsOf}
-use Rattle.library.specs.Rows.{flagged, sayByte, sayAll}
+use Rattle.image.specs.Bytes.{flagged, sayByte, sayAll}
 use Rattle.library.specs.Sound.{lineTests, soundLine, isNamed, SoundCard}
 use Rattle.library.proofs.Each.{each-map, all-each, allOf-each}
 use Rattle.library.proofs.EntryNames.{is-named}
 use Rattle.library.proofs.BytesBack.{Low, number-back, flag-back, raw-bytes}
 use Rattle.library.proofs.FieldsBack.{Raw, count-back, head-end, fields-back}
 use Rattle.library.proofs.ReadBack.{LineSays, rawOf, headOf}
-use Rattle.library.proofs.Telling.{say-used}
+use Rattle.image.proofs.Weighing.{say-used}
 use Rattle.image.specs.Places.{textFrom, textAt, nextAt, seenAt, textOf, lineIn, titleOf, titleIn}
 use Rattle.image.specs.Flags.{inForce}
 use Rattle.image.proofs.Standing.{text-at, next-inside}

@@ -1,194 +1,38 @@
 -- The flags settled from the words of a sound library's cards of YANK$$$ are 1 where the number is yanked and 0 else. Assumes nothing.
---   flagged-marked, acted-is        a card
---   AllAt, cards-at, back-at        the cards, the last first
---   pass-is, top-is                 one owner's cards, owners from the highest down
---   bits-settled                    every flag is 0 or 1
+--   cards-at                        the cards stand at the places of their words
 --   settled-yanked                  the law
-use Prim.Native.Nat.{ℕ, zero, suc, _+_, _≤_, _<_}
+use Prim.Native.Nat.{ℕ, suc, _+_, _≤_, _<_}
 use native.Mathlib.Omega.{arith}
-use native.Mathlib.Decide.{decLe}
-use mathlib.Core.Path.{_≡_, refl, sym, ap, ap₂, _∙_, subst, fun-ext}
-use mathlib.Core.Bool.{Bool, true, false, _&&_, _||_, not}
+use mathlib.Core.Path.{_≡_, refl, sym, ap, ap₂, _∙_, subst}
+use mathlib.Core.Bool.{Bool, true, false, _&&_}
 use mathlib.Core.List.{List, [], _∷_, _++_, map}
-use borrow.Author.Tests.{eqb-true, eqb-false, le-leb}
-use lib.Dec.{T, eqb, ltb, leb→le, ltb→lt}
-use lib.ListN.{length, getD, set, take, drop, length-set, length-append, length-drop}
-use lib.Seq.{take-all, getD-set-same, getD-set-other, set-out}
-use Rattle.words.specs.Base.{if_then_else_, any, all, member}
+use borrow.Author.Tests.{eqb-true, eqb-false}
+use lib.Dec.{T, eqb, leb→le}
+use lib.ListN.{length, getD, drop, length-append, length-drop}
+use Rattle.words.specs.Base.{if_then_else_, any, all}
 use Rattle.words.specs.Text.{textWords}
 use Rattle.words.proofs.Tests.{true-T}
-use Rattle.lines.specs.Directive.{directive, yankNames}
+use Rattle.lines.specs.Directive.{directive}
 use Rattle.library.specs.Each.{Each}
-use Rattle.library.specs.Library.{Byte, Card, Library, history, nameAt, entryOf, deckNames}
-use Rattle.library.specs.Yanks.{Target, wholeSet, covers, isYank, targets, lastSays, yankedBy, yanked}
+use Rattle.library.specs.Library.{Byte, Card, Library, history, deckNames}
+use Rattle.library.specs.Yanks.{Target, covers, isYank, targets, lastSays, yankedBy, yanked}
 use Rattle.library.specs.Image.{byteBits, furtherWords, cardWords, cardsWords, decksWords, tables, encode, limitTests, withinLimits}
-use Rattle.library.specs.Check.{Stored, okTarget}
-use Rattle.library.specs.Rows.{flagged, applied, applyIf, passed, ran, noFlag}
+use Rattle.library.specs.Check.{okTarget}
+use Rattle.image.specs.Bytes.{flagged}
 use Rattle.library.specs.Sound.{isNamed, namesLowerSets, SoundCard, Sound}
-use Rattle.library.proofs.Each.{each-map, each-two, each-of-map, and-parts, all-each, allOf-each}
+use Rattle.library.proofs.Each.{each-map, each-two, and-parts, all-each, allOf-each}
 use Rattle.library.proofs.EntryNames.{is-named}
 use Rattle.library.proofs.ReadBack.{headOf}
-use Rattle.library.proofs.Naming.{entry-within, flag-add, any-map}
-use Rattle.library.proofs.Settling.{Lower, ran-settles}
+use Rattle.library.proofs.Anys.{any-map}
+use Rattle.image.proofs.Settling.{Lower}
 use Rattle.library.proofs.YankedUnique.{falls-none, card-lower}
 use Rattle.library.proofs.Rollback.{yankOf}
 use Rattle.library.proofs.Flags.{yankList, yanked-rule, flags-yanked}
-use Rattle.image.specs.Places.{textAt, nextAt, seenAt, lineIn, placesIn}
-use Rattle.image.specs.Flags.{inForce, namesIn, mark, marked, acted, onto, backward, owned, actedAll, fromTop, top, settledFlags, SettledYanked}
+use Rattle.image.specs.Places.{nextAt, placesIn}
+use Rattle.image.specs.Flags.{namesIn, settledFlags, SettledYanked}
 use Rattle.image.proofs.Standing.{places-more, places-end}
-use Rattle.image.proofs.Chaining.{zeros, zeros-long, zeros-zero}
-use Rattle.image.proofs.Marking.{mark-set}
 use Rattle.image.proofs.Written.{inside, after, owner-is, line-is, force-is}
-
--- LENGTHS stay
-mark-long : (fs : List ℕ) (n : ℕ) → length (mark fs n) ≡ length fs
-mark-long fs n = go (eqb n 0)
-  where
-    go : (b : Bool) → length (if b then fs else set fs n 1) ≡ length fs
-    go true = refl
-    go false = length-set fs n 1
-
-marked-long : (d ns fs : List ℕ) → length (marked d ns fs) ≡ length fs
-marked-long d [] fs = refl
-marked-long d (w ∷ ns) fs = marked-long d ns (mark fs (entryOf d w)) ∙ mark-long fs (entryOf d w)
-
-acted-long : (d ws fs : List ℕ) (p : ℕ) → length (acted d ws fs p) ≡ length fs
-unfolding acted
-acted-long d ws fs p = go (inForce ws fs p)
-  where
-    go : (b : Bool) → length (if b then marked d (namesIn (lineIn ws (textAt ws p) (nextAt ws p))) fs else fs) ≡ length fs
-    go true = marked-long d (namesIn (lineIn ws (textAt ws p) (nextAt ws p))) fs
-    go false = refl
-
-all-long : (d ws ps fs : List ℕ) → length (actedAll d ws ps fs) ≡ length fs
-all-long d ws [] fs = refl
-all-long d ws (p ∷ ps) fs = all-long d ws ps (acted d ws fs p) ∙ acted-long d ws fs p
-
--- EVERY FLAG is 0 or 1
-abbrev Bits : List ℕ → Type 0
-Bits fs = (n : ℕ) → getD fs n 0 ≤ 1
-
-set-bits : (fs : List ℕ) (m : ℕ) → Bits fs → Bits (set fs m 1)
-set-bits fs m h n = go (eqb n m) refl (decLe (length fs) m)
-  where
-    go : (b : Bool) → eqb n m ≡ b → Dec (length fs ≤ m) → getD (set fs m 1) n 0 ≤ 1
-    go b e (yes out) = subst (λ (l : List ℕ). getD l n 0 ≤ 1) (sym (set-out fs m 1 out)) (h n)
-    go true e (no in·) =
-        let s : getD (set fs m 1) n 0 ≡ 1 = ap (λ (k : ℕ). getD (set fs m 1) k 0) (eqb-true n m e) ∙ getD-set-same fs m 1 0 (omega arith) in
-        omega arith
-    go false e (no in·) = omega (arith, getD-set-other fs m n 1 0 (eqb-false n m e), h n)
-
-mark-bits : (fs : List ℕ) (m : ℕ) → Bits fs → Bits (mark fs m)
-mark-bits fs m h = go (eqb m 0)
-  where
-    go : (b : Bool) → Bits (if b then fs else set fs m 1)
-    go true = h
-    go false = set-bits fs m h
-
-marked-bits : (d ns fs : List ℕ) → Bits fs → Bits (marked d ns fs)
-marked-bits d [] fs h = h
-marked-bits d (w ∷ ns) fs h = marked-bits d ns (mark fs (entryOf d w)) (mark-bits fs (entryOf d w) h)
-
-acted-bits : (d ws fs : List ℕ) (p : ℕ) → Bits fs → Bits (acted d ws fs p)
-unfolding acted
-acted-bits d ws fs p h = go (inForce ws fs p)
-  where
-    go : (b : Bool) → Bits (if b then marked d (namesIn (lineIn ws (textAt ws p) (nextAt ws p))) fs else fs)
-    go true = marked-bits d (namesIn (lineIn ws (textAt ws p) (nextAt ws p))) fs h
-    go false = h
-
-all-bits : (d ws ps fs : List ℕ) → Bits fs → Bits (actedAll d ws ps fs)
-all-bits d ws [] fs h = h
-all-bits d ws (p ∷ ps) fs h = all-bits d ws ps (acted d ws fs p) (acted-bits d ws fs p h)
-
-top-bits : (d ws : List ℕ) (n : ℕ) (fs : List ℕ) → Bits fs → Bits (fromTop d ws n fs)
-top-bits d ws zero fs h = h
-top-bits d ws (suc n) fs h = top-bits d ws n (actedAll d ws (owned ws (suc n) (backward ws)) fs) (all-bits d ws (owned ws (suc n) (backward ws)) fs h)
-
--- A CARD: names that the directory has
-abbrev Known : List ℕ → List ℕ → Type 0
-Known d ns = Each (λ w. 0 < entryOf d w) ns
-
-or-assoc : (a b c : Bool) → ((a || b) || c) ≡ (a || (b || c))
-or-assoc true b c = refl
-or-assoc false b c = refl
-
-or-none : (a : Bool) → a ≡ (a || false)
-or-none true = refl
-or-none false = refl
-
-flagged-marked : (d ns fs : List ℕ) (j : ℕ) → length d < length fs → Known d ns → flagged (marked d ns fs) j ≡ (flagged fs j || any (λ w. eqb j (entryOf d w)) ns)
-flagged-marked d [] fs j lt h = or-none (flagged fs j)
-flagged-marked d (w ∷ ns) fs j lt h =
-    let n : ℕ = entryOf d w in
-    let in· : n < length fs = omega (arith, entry-within d w) in
-    let m : mark fs n ≡ set fs n 1 = sym (mark-set fs n (λ e. omega (arith, e, h .0))) in
-    flagged-marked d ns (mark fs n) j (omega (arith, lt, mark-long fs n)) (h .1)
-    ∙ ap (λ (l : List ℕ). flagged l j || any (λ v. eqb j (entryOf d v)) ns) m
-    ∙ ap (λ (b : Bool). b || any (λ v. eqb j (entryOf d v)) ns) (flag-add fs n j in·)
-    ∙ or-assoc (flagged fs j) (eqb j n) (any (λ v. eqb j (entryOf d v)) ns)
-
-named-targets : (d l : List ℕ) → targets d l ≡ map (λ w. wholeSet (entryOf d w)) (namesIn l)
-unfolding targets namesIn
-named-targets d l = go (isYank (directive l))
-  where
-    go : (b : Bool) → _≡_ {A = List Target} (if b then map (λ w. wholeSet (entryOf d w)) (yankNames l) else []) (map (λ w. wholeSet (entryOf d w)) (if b then yankNames l else []))
-    go true = refl
-    go false = refl
-
--- what stands at a place is this card
-record CardAt (ws : List ℕ) (p : ℕ) (c : Card) : Type 0 where
-  own : seenAt ws p .owner ≡ c .owner
-  line : lineIn ws (textAt ws p) (nextAt ws p) ≡ c .line
-  force : (fs : List ℕ) → inForce ws fs p ≡ lastSays (flagged fs) false (history c)
-
-abbrev stored : Card → Stored
-stored c = record { place = 0; card = c; act = false; raw = [] }
-
-module _ (d ws : List ℕ) (p : ℕ) (c : Card) (is : CardAt ws p c) (known : Known d (namesIn (c .line))) (fs : List ℕ) (lt : length d < length fs) where
-  acted-is : flagged (acted d ws fs p) ≡ applied d (flagged fs) (stored c)
-  unfolding acted
-  acted-is = fun-ext (λ j. here j ∙ go j (lastSays (flagged fs) false (history c)))
-    where
-      here : (j : ℕ) → flagged (if inForce ws fs p then marked d (namesIn (lineIn ws (textAt ws p) (nextAt ws p))) fs else fs) j
-          ≡ flagged (if lastSays (flagged fs) false (history c) then marked d (namesIn (c .line)) fs else fs) j
-      here j = λ i. flagged (if is .force fs i then marked d (namesIn (is .line i)) fs else fs) j
-
-      go : (j : ℕ) (b : Bool) → flagged (if b then marked d (namesIn (c .line)) fs else fs) j ≡ (flagged fs j || (b && any (covers 0 j) (targets d (c .line))))
-      go j true =
-          flagged-marked d (namesIn (c .line)) fs j lt known
-          ∙ ap (λ (b : Bool). flagged fs j || b) (sym (ap (any (covers 0 j)) (named-targets d (c .line)) ∙ any-map (covers 0 j) (λ w. wholeSet (entryOf d w)) (namesIn (c .line))))
-      go j false = or-none (flagged fs j)
-
--- THE CARDS, the last first
-abbrev AllAt : List ℕ → List ℕ → List Card → Type 0
-AllAt ws [] [] = Unit {0}
-AllAt ws [] (c ∷ cs) = ⊥
-AllAt ws (p ∷ ps) [] = ⊥
-AllAt ws (p ∷ ps) (c ∷ cs) = CardAt ws p c × AllAt ws ps cs
-
-abbrev turned : List Card → List Card → List Card
-turned back [] = back
-turned back (c ∷ cs) = turned (c ∷ back) cs
-
-back-at : (ws back ps : List ℕ) (bs cs : List Card) → AllAt ws back bs → AllAt ws ps cs → AllAt ws (onto back ps) (turned bs cs)
-back-at ws back [] bs [] h k = h
-back-at ws back [] bs (c ∷ cs) h k = absurd k
-back-at ws back (p ∷ ps) bs [] h k = absurd k
-back-at ws back (p ∷ ps) bs (c ∷ cs) h k = back-at ws (p ∷ back) ps (c ∷ bs) cs (k .0, h) (k .1)
-
-each-turned : (P : Card → Type 0) (bs cs : List Card) → Each P bs → Each P cs → Each P (turned bs cs)
-each-turned P bs [] h k = h
-each-turned P bs (c ∷ cs) h k = each-turned P (c ∷ bs) cs (k .0, h) (k .1)
-
-any-turned : (q : Card → Bool) (bs cs : List Card) → any q (turned bs cs) ≡ (any q bs || any q cs)
-any-turned q bs [] = or-none (any q bs)
-any-turned q bs (c ∷ cs) = any-turned q (c ∷ bs) cs ∙ swap (q c) (any q bs) (any q cs)
-  where
-    swap : (a b e : Bool) → ((a || b) || e) ≡ (b || (a || e))
-    swap true true e = refl
-    swap true false e = refl
-    swap false b e = refl
+use Rattle.image.proofs.Passing.{Known, names-known, AllAt, settled-bits, settled-is}
 
 cards-at : (d ws : List ℕ) → length d ≤ 1023 → (yk : ℕ → Bool) (cs : List Card) → Each (SoundCard d) cs → (at : ℕ) → drop at ws ≡ cardsWords yk cs → AllAt ws (placesIn ws at) cs
 cards-at d ws few yk [] h at e =
@@ -205,35 +49,6 @@ cards-at d ws few yk (c ∷ cs) h at e =
       },
       on,
     )
-
--- ONE OWNER'S CARDS
-module _ (d ws : List ℕ) where
-  pass-is : (n : ℕ) (ps : List ℕ) (cs : List Card) → AllAt ws ps cs → Each (λ c. Known d (namesIn (c .line))) cs → (fs : List ℕ) → length d < length fs
-      → flagged (actedAll d ws (owned ws n ps) fs) ≡ passed d n (flagged fs) (map stored cs)
-  pass-is n [] [] h k fs lt = refl
-  pass-is n [] (c ∷ cs) h k fs lt = absurd h
-  pass-is n (p ∷ ps) [] h k fs lt = absurd h
-  pass-is n (p ∷ ps) (c ∷ cs) h k fs lt = here ∙ go (eqb (c .owner) n) (λ gs l. pass-is n ps cs (h .1) (k .1) gs l)
-    where
-      here : flagged (actedAll d ws (if eqb (seenAt ws p .owner) n then (p ∷ owned ws n ps) else owned ws n ps) fs)
-          ≡ flagged (actedAll d ws (if eqb (c .owner) n then (p ∷ owned ws n ps) else owned ws n ps) fs)
-      here = ap (λ (o : ℕ). flagged (actedAll d ws (if eqb o n then (p ∷ owned ws n ps) else owned ws n ps) fs)) (h .0 .own)
-
-      go : (b : Bool) → ((gs : List ℕ) → length d < length gs → flagged (actedAll d ws (owned ws n ps) gs) ≡ passed d n (flagged gs) (map stored cs))
-          → flagged (actedAll d ws (if b then (p ∷ owned ws n ps) else owned ws n ps) fs) ≡ passed d n (applyIf d (flagged fs) (stored c) b) (map stored cs)
-      go true on =
-          on (acted d ws fs p) (omega (arith, lt, acted-long d ws fs p))
-          ∙ ap (λ (f : ℕ → Bool). passed d n f (map stored cs)) (acted-is d ws p c (h .0) (k .0) fs lt)
-      go false on = on fs lt
-
-  -- OWNERS FROM THE HIGHEST DOWN
-  top-is : (cs : List Card) → AllAt ws (backward ws) cs → Each (λ c. Known d (namesIn (c .line))) cs → (n : ℕ) (fs : List ℕ) → length d < length fs
-      → flagged (fromTop d ws n fs) ≡ ran d (map stored cs) n (flagged fs)
-  top-is cs h k zero fs lt = refl
-  top-is cs h k (suc n) fs lt =
-      let gs : List ℕ = actedAll d ws (owned ws (suc n) (backward ws)) fs in
-      top-is cs h k n gs (omega (arith, lt, all-long d ws (owned ws (suc n) (backward ws)) fs))
-      ∙ ap (ran d (map stored cs) n) (pass-is (suc n) (backward ws) cs h k fs lt)
 
 -- WORDS: how many they are does not hang on what is yanked
 module _ (yk zk : ℕ → Bool) where
@@ -276,18 +91,9 @@ module _ (l : Library) (s : Sound l) where
   known-card : (c : Card) → T (namesLowerSets l c) → Known d (namesIn (c .line))
   known-card c t =
       let ok : Target → Bool = okTarget d (deckNames l) (c .owner) in
-      let q : T (all ok (targets d (c .line))) = and-parts (isYank (directive (c .line))) (all ok (targets d (c .line))) t .1 in
-      go (namesIn (c .line)) (subst (λ (ts : List Target). T (all ok ts)) (named-targets d (c .line)) q)
-    where
-      go : (ns : List ℕ) → T (all (okTarget d (deckNames l) (c .owner)) (map (λ w. wholeSet (entryOf d w)) ns)) → Known d ns
-      go [] t = tt
-      go (w ∷ ns) t =
-          let n : ℕ = entryOf d w in
-          let p = and-parts (okTarget d (deckNames l) (c .owner) (wholeSet n)) (all (okTarget d (deckNames l) (c .owner)) (map (λ v. wholeSet (entryOf d v)) ns)) t in
-          let q = and-parts (ltb 0 n && ltb n (c .owner)) (not (member (nameAt d n) (deckNames l))) (p .0) in
-          (ltb→lt 0 n (and-parts (ltb 0 n) (ltb n (c .owner)) (q .0) .0), go ns (p .1))
+      names-known d (deckNames l) (c .owner) (c .line) (and-parts (isYank (directive (c .line))) (all ok (targets d (c .line))) t .1)
 
-  lower-card : (c : Card) → SoundCard d c → T (namesLowerSets l c) → Lower d (stored c)
+  lower-card : (c : Card) → SoundCard d c → T (namesLowerSets l c) → Lower d c
   lower-card c h t =
       record {
         names = λ n e. let r = card-lower l c h t n (true-T _ e) in (r .0, r .2 .0);
@@ -295,56 +101,27 @@ module _ (l : Library) (s : Sound l) where
         rises = (omega arith, falls-none (c .owner) (c .later) (h .rises));
       }
 
-  abbrev ys : List Stored
-  ys = map stored (turned [] (l .yanks))
-
-  low : Each (Lower d) ys
-  low =
-      each-of-map (Lower d) stored (turned [] (l .yanks))
-      (each-turned (λ c. Lower d (stored c)) [] (l .yanks) tt (each-two (SoundCard d) (λ c. T (namesLowerSets l c)) (λ c. Lower d (stored c)) lower-card (l .yanks) (s .yanks) (s .lower)))
-
-  abbrev acting : ℕ → Card → Bool
-  acting n c = any (covers 0 n) (targets d (c .line)) && lastSays (yanked l 0) false (history c)
-
-  solves : (n : ℕ) → yanked l 0 n ≡ any (λ (t : Stored). acting n (t .card)) ys
+  solves : (n : ℕ) → yanked l 0 n ≡ any (λ c. any (covers 0 n) (targets d (c .line)) && lastSays (yanked l 0) false (history c)) (l .yanks)
   solves n =
       yanked-rule l 0 n ∙ ap (λ (f : ℕ → Bool). yankedBy (yankList l) f 0 n) (flags-yanked l s)
       ∙ any-map (λ y. any (covers 0 n) (y .acts) && lastSays (yanked l 0) false (y .bytes)) (yankOf d) (l .yanks)
-      ∙ sym (any-turned (acting n) [] (l .yanks)) ∙ sym (any-map (λ (t : Stored). acting n (t .card)) stored (turned [] (l .yanks)))
 
   module _ (yk : ℕ → Bool) (size : ℕ) (lt : length d < size) where
     abbrev ws : List ℕ
     ws = cardsWords yk (l .yanks)
 
-    stand : AllAt ws (backward ws) (turned [] (l .yanks))
-    unfolding backward
-    stand = back-at ws [] (placesIn ws 0) [] (l .yanks) tt (cards-at d ws (limits .0) yk (l .yanks) (s .yanks) 0 refl)
+    short : length ws ≤ 65536
+    short = omega (arith, limits .1, cards-long yk (yanked l 0) (l .yanks))
 
-    known : Each (λ c. Known d (namesIn (c .line))) (turned [] (l .yanks))
-    known = each-turned (λ c. Known d (namesIn (c .line))) [] (l .yanks) tt (each-map (λ c. T (namesLowerSets l c)) (λ c. Known d (namesIn (c .line))) known-card (l .yanks) (s .lower))
-
-    abbrev settled : List ℕ
-    settled = fromTop d ws (length d) (zeros size)
-
-    whole : settledFlags d ws size ≡ settled
-    unfolding settledFlags
-    whole =
-        let t : take 65536 ws ≡ ws = take-all 65536 ws (omega (arith, limits .1, cards-long yk (yanked l 0) (l .yanks))) in
-        let n : top d ≡ length d = ap (λ (b : Bool). if b then length d else 1023) (le-leb (length d) 1023 (limits .0)) in
-        λ i. fromTop d (t i) (n i) (zeros size)
-
-    zeros-none : flagged (zeros size) ≡ noFlag
-    zeros-none = fun-ext (λ n. ap (λ (x : ℕ). eqb x 1) (zeros-zero size n))
-
-    flag-is : (n : ℕ) → flagged settled n ≡ yanked l 0 n
-    flag-is n =
-        let e : flagged settled ≡ ran d ys (length d) (flagged (zeros size)) = top-is d ws (turned [] (l .yanks)) stand known (length d) (zeros size) (omega (arith, lt, zeros-long size)) in
-        (λ i. e i n) ∙ ap (λ (f : ℕ → Bool). ran d ys (length d) f n) zeros-none ∙ ran-settles d (yanked l 0) ys low solves n
+    flag-is : (n : ℕ) → flagged (settledFlags d ws size) n ≡ yanked l 0 n
+    flag-is =
+        settled-is d ws size (limits .0) short lt (l .yanks) (cards-at d ws (limits .0) yk (l .yanks) (s .yanks) 0 refl)
+        (each-map (λ c. T (namesLowerSets l c)) (λ c. Known d (namesIn (c .line))) known-card (l .yanks) (s .lower))
+        (each-two (SoundCard d) (λ c. T (namesLowerSets l c)) (Lower d) lower-card (l .yanks) (s .yanks) (s .lower))
+        (yanked l 0) solves
 
     flags-are : (n : ℕ) → getD (settledFlags d ws size) n 0 ≡ (if yanked l 0 n then 1 else 0)
-    flags-are n =
-        ap (λ (fs : List ℕ). getD fs n 0) whole
-        ∙ bit-is (getD settled n 0) (yanked l 0 n) (top-bits d ws (length d) (zeros size) (λ m. omega (arith, zeros-zero size m)) n) (flag-is n)
+    flags-are n = bit-is (getD (settledFlags d ws size) n 0) (yanked l 0 n) (settled-bits d ws size (limits .0) short n) (flag-is n)
 
 pub settled-yanked : SettledYanked
 settled-yanked l s yk size lt n = flags-are l s yk size lt n

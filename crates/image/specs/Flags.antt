@@ -17,7 +17,7 @@ use Rattle.library.specs.Yanks.{isYank, yanked}
 use Rattle.library.specs.Image.{cardsWords}
 use Rattle.library.specs.Check.{rawBytes}
 use Rattle.library.specs.Sound.{Sound}
-use Rattle.library.specs.Rows.{part, flagged, sayAll}
+use Rattle.image.specs.Bytes.{part, flagged, sayAll}
 use Rattle.image.specs.Places.{textAt, nextAt, seenAt, lineIn, placesIn}
 
 -- A CARD: "active when its last byte that is not yanked is an activating one", under these flags

@@ -1,6 +1,6 @@
 // Cards as they stand in an image (01, "Cards").
 ghost use mathlib.Core.Path.{_≡_};
-ghost use Prim.Native.Nat.{_+_, _-_, _≤_, _<_};
+ghost use Prim.Native.Nat.{_+_, _≤_, _<_};
 ghost use lib.Dec.{leb};
 ghost use lib.ListN.{length, getD};
 ghost use Rattle.words.specs.Base.{if_then_else_};
@@ -19,9 +19,10 @@ const TEXT: u64 = 0o1000000000000;
 
 const SEQUENCE: u64 = 0o1000000;
 
-const FIELD: u64 = 0o1000000;
+// a history byte, of 18 bits
+pub const FIELD: u64 = 0o1000000;
 // of a byte, 15-00 directory number
-const NUMBER: u64 = 0o200000;
+pub const NUMBER: u64 = 0o200000;
 // of a text's word, the first of ten codes
 const FIRST: u64 = 0o1000000000000000000;
 

@@ -5,7 +5,8 @@ ghost use mathlib.Core.List.{_++_};
 ghost use lib.ListN.{length, take, drop};
 ghost use Rattle.library.specs.Library.{deckLine};
 ghost use Rattle.library.specs.Check.{cardsPlace};
-ghost use Rattle.image.specs.Places.{titleOf, titleIn, isTitle, kindNumber, titleName, deckEnd, rowOf, tableOf, tableInto};
+ghost use Rattle.library.specs.Asked.{deckLineOf};
+ghost use Rattle.image.specs.Places.{lineIn, titleIn, isTitle, kindNumber, titleName, deckEnd, rowOf, tableOf, tableInto};
 use crate::cards::COLUMNS;
 use crate::cards::line_of;
 use crate::cards::see;
@@ -42,27 +43,27 @@ pub(crate) enum Title {
     Common(u64),
 }
 
-// The title of a line.
-fn title_line(line: &[u8]) -> Title
-    ensures { λ r. ⌜ r ≡ titleOf (deckLine (now (line .entry))) ⌝ }
+// The words from `from` up to `to` as a deck card's text; a line that begins with no * is none, and is not expanded.
+pub fn deck_at(image: &[u64], from: usize, to: usize) -> DeckLine
+    ensures { λ r. ⌜ r ≡ deckLineOf (deckLine (lineIn (now (image .entry)) from to)) ⌝ }
 {
-    match library::deck_line(line) {
-        DeckLine::NotDeck => Title::Not,
-        DeckLine::BadDeck => Title::Not,
-        DeckLine::Deck(w) => Title::Deck(w),
-        DeckLine::Common(w) => Title::Common(w),
+    if !star_at(image, from) {
+        return DeckLine::NotDeck;
     }
+    let mut line = [0u8; COLUMNS];
+    let n = line_of(image, from, to, &mut line);
+    library::deck_line(&line[..n])
 }
 
 fn title_of(image: &[u64], c: Seen) -> Title
     ensures { λ r. ⌜ r ≡ titleIn (now (image .entry)) c ⌝ }
 {
-    if !star_at(image, c.text) {
-        return Title::Not;
+    match deck_at(image, c.text, c.next) {
+        DeckLine::NotDeck => Title::Not,
+        DeckLine::BadDeck => Title::Not,
+        DeckLine::Deck(w) => Title::Deck(w),
+        DeckLine::Common(w) => Title::Common(w),
     }
-    let mut line = [0u8; COLUMNS];
-    let n = line_of(image, c.text, c.next, &mut line);
-    title_line(&line[..n])
 }
 
 fn begins(t: Title) -> bool
@@ -76,7 +77,7 @@ fn begins(t: Title) -> bool
 }
 
 // Where the next deck card stands, from a card on, or where the image ends.
-fn deck_end(image: &[u64], from: usize) -> usize
+pub fn deck_end(image: &[u64], from: usize) -> usize
     ensures { λ r. ⌜ (r ≤ length (now (image .entry))) × (from ≤ length (now (image .entry)) → from ≤ r) ⌝ }
     ensures { λ r. ⌜ r ≡ deckEnd (now (image .entry)) from ⌝ }
 {
@@ -123,7 +124,7 @@ fn put_row(table: &mut [u64], at: usize, t: Title, from: usize, to: usize)
 }
 
 // Where the cards start.
-fn cards_place(image: &[u64]) -> usize
+pub fn cards_place(image: &[u64]) -> usize
     ensures { λ r. ⌜ r ≡ cardsPlace (now (image .entry)) ⌝ }
 {
     let counts = word_at(image, COUNTS);

@@ -5,18 +5,18 @@ ghost use mathlib.Core.List.{[], _∷_};
 ghost use Prim.Native.Nat.{_/_, _%_, _^_, _≤_, _<_};
 ghost use lib.ListN.{length};
 ghost use Rattle.library.specs.Check.{rawBytes};
-ghost use Rattle.library.specs.Rows.{part, flagged, sayByte, sayAll};
+ghost use Rattle.image.specs.Bytes.{part, flagged, sayByte, sayAll};
+use crate::cards::FIELD;
+use crate::cards::NUMBER;
+use crate::cards::least;
 
-// the bytes of a history word, three of 18 bits
-const FIELD: u64 = 0o1000000;
+// the first and second of the three bytes of a further history word
+pub const FIRST_BYTE: u64 = 0o1000000000000;
 
-const SECOND: u64 = 0o1000000;
+pub const SECOND_BYTE: u64 = 0o1000000;
 
-const FIRST: u64 = 0o1000000000000;
-// of a byte, 15-00 directory number
-const NUMBER: u64 = 0o200000;
-
-fn is_flagged(flags: &[u64], n: u64) -> bool
+// Whether a number is flagged; none beyond the flags is.
+pub fn is_flagged(flags: &[u64], n: u64) -> bool
     ensures { λ r. ⌜ r ≡ flagged (now (flags .entry)) n ⌝ }
 {
     if flags.len() as u64 <= n {
@@ -41,13 +41,12 @@ fn say_byte(flags: &[u64], so: bool, b: u64) -> bool
 fn say_word(flags: &[u64], so: bool, w: u64) -> bool
     ensures { λ r. ⌜ r ≡ sayAll (flagged (now (flags .entry))) so (w / 2 ^ 36 % 2 ^ 18 ∷ w / 2 ^ 18 % 2 ^ 18 ∷ w % 2 ^ 18 ∷ []) ⌝ }
 {
-    let a = say_byte(flags, so, w / FIRST % FIELD);
-    let b = say_byte(flags, a, w / SECOND % FIELD);
+    let a = say_byte(flags, so, w / FIRST_BYTE % FIELD);
+    let b = say_byte(flags, a, w / SECOND_BYTE % FIELD);
     say_byte(flags, b, w % FIELD)
 }
 
-// Whether the card whose words from `at` up to `text` are its history's is active.
-pub(crate) fn is_active(image: &[u64], at: usize, text: usize, flags: &[u64]) -> bool
+fn active_in(image: &[u64], at: usize, text: usize, flags: &[u64]) -> bool
     requires { ⌜ (at < text) × (text ≤ length (now image)) ⌝ }
     ensures { λ r. ⌜ r ≡ sayAll (flagged (now (flags .entry))) false (rawBytes (part at text (now (image .entry)))) ⌝ }
 {
@@ -58,4 +57,15 @@ pub(crate) fn is_active(image: &[u64], at: usize, text: usize, flags: &[u64]) ->
         i += 1;
     }
     so
+}
+
+// Whether the card whose words from `at` up to `text` are its history's is active.
+pub fn is_active(image: &[u64], at: usize, text: usize, flags: &[u64]) -> bool
+    ensures { λ r. ⌜ r ≡ sayAll (flagged (now (flags .entry))) false (rawBytes (part at text (now (image .entry)))) ⌝ }
+{
+    let end = least(text, image.len());
+    if end <= at {
+        return false;
+    }
+    active_in(image, at, end, flags)
 }

@@ -1,7 +1,8 @@
 -- Both answers of the check, and the names of an image that it accepts. Assumes nothing.
 --   naming-sound, naming-refused, listing-sound, listing-refused    what the check answers decides
 --   accepted-sizes               rows 1 and 3
---   directory-is, count-is       the directory of an accepted image
+--   directory-long               the directory in its words
+--   directory-is, count-is       that of an accepted image
 --   entry-name, card-named       an entry's name, and a card's
 use Prim.Native.Nat.{ℕ, zero, suc, _+_, _-_, _≤_, _<_}
 use native.Mathlib.Omega.{arith}
@@ -18,15 +19,15 @@ use Rattle.words.specs.Names.{isName, nameWord, nameOf, isNameWord}
 use Rattle.words.proofs.Tests.{true-T}
 use Rattle.library.specs.Library.{Library, nameAt, purged, reserved}
 use Rattle.library.specs.Check.{Checking, good, bad, checked, check, directoryCount, directoryOf, cardsPlace}
-use Rattle.library.specs.Found.{Sized, Tabled}
 use Rattle.library.specs.Sound.{isNamed}
 use Rattle.library.specs.declared.Fault.{Fault}
 use Rattle.library.specs.declared.Checked.{Checked}
 use Rattle.library.specs.declared.Checked.the-variants.{Sound as Accepts, Refused as Rejects}
 use Rattle.library.proofs.Accepted.{check-accepted}
 use Rattle.library.proofs.CheckSound.{check-sound}
-use Rattle.library.proofs.Tabling.{sized, tabled}
 use Rattle.library.proofs.WordsFit.{entry-sound}
+use Rattle.rows.specs.Found.{Sized, Tabled}
+use Rattle.rows.proofs.Tabling.{sized, tabled}
 use Rattle.keeper.specs.Keeper.{Showing, inSpace, ofChecked, named, naming, listed, listing, entryName}
 use Rattle.keeper.specs.Parts.{Answers, AnswersOf, wordName, entryWord, pointed}
 use Rattle.keeper.specs.declared.Told.{Told}
@@ -94,6 +95,11 @@ unfolding entryName
 none-past d n h = let pos : 0 < n = omega arith in rw (lt-ltb 0 n pos, lt-leb n (length d) h)
 
 -- THE DIRECTORY
+pub directory-long : (ws : List ℕ) → Tabled ws → length (directoryOf ws) ≡ directoryCount ws
+directory-long ws t =
+    let i : cardsPlace ws ≤ length ws = t .inside in
+    length-take (directoryCount ws) (drop 2 ws) ∙ omega (arith, length-drop 2 ws)
+
 module _ (ws : List ℕ) (l : Library) (e : check ws ≡ good l) where
   pub directory-is : l .directory ≡ directoryOf ws
   directory-is = sym (ap (λ (m : Library). m .directory) (check-accepted ws l e .same))
@@ -102,9 +108,7 @@ module _ (ws : List ℕ) (l : Library) (e : check ws ≡ good l) where
   tables-in = tabled ws (check-accepted ws l e .tables)
 
   pub count-is : length (l .directory) ≡ directoryCount ws
-  count-is =
-      let i : cardsPlace ws ≤ length ws = tables-in .inside in
-      ap length directory-is ∙ length-take (directoryCount ws) (drop 2 ws) ∙ omega (arith, length-drop 2 ws)
+  count-is = ap length directory-is ∙ directory-long ws tables-in
 
   word-is : (n : ℕ) → 0 < n → n ≤ directoryCount ws → getD ws (n + 1) 0 ≡ nameAt (l .directory) n
   word-is n pos h =

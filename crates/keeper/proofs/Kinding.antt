@@ -14,16 +14,16 @@ use lib.Seq.{set-out, getD-set-same, getD-set-other}
 use Rattle.words.specs.Base.{if_then_else_, any}
 use Rattle.library.specs.Library.{Deck, DeckLine, notDeck, badDeck, deckOf, deckLine}
 use Rattle.library.specs.Check.{Stored, partAt, partsOf}
-use Rattle.library.specs.Found.{Sees}
-use Rattle.library.specs.Walks.{Walk}
-use Rattle.library.specs.Rows.{deckLineOf, ReadsDeck}
+use Rattle.library.specs.Asked.{deckLineOf}
 use Rattle.library.specs.declared.Seen.{Seen}
-use Rattle.library.proofs.Showing.{shown-owner}
-use Rattle.library.proofs.Decking.{shown-deck}
 use Rattle.library.specs.Sound.{noTwo}
 use Rattle.library.proofs.Each.{and-parts}
 use Rattle.library.specs.declared.DeckLine.{DeckLine as DeckAnswer}
 use Rattle.library.specs.declared.DeckLine.the-variants.{NotDeck, BadDeck, Deck as DeckOf, Common as CommonOf}
+use Rattle.image.specs.Places.{seenAt, lineIn}
+use Rattle.checks.specs.Walks.{Walk}
+use Rattle.checks.proofs.Showing.{shown-owner}
+use Rattle.checks.proofs.Decking.{shown-deck}
 use Rattle.keeper.specs.Keeper.{deckByte, deckKind}
 use Rattle.keeper.specs.Parts.{kindPut, kindsOf}
 
@@ -35,7 +35,7 @@ kind-out kinds n (DeckOf w) h = sym (set-out kinds n 68 h)
 kind-out kinds n (CommonOf w) h = sym (set-out kinds n 67 h)
 
 -- a card as it is seen
-pub shown-kind : (d ws : List ℕ) (at : ℕ) (s : Stored) (w : Walk d ws at s) (r : Seen) (sees : Sees ws at r) (a : DeckAnswer) → ReadsDeck ws (r .text) (r .next) a
+pub shown-kind : (d ws : List ℕ) (at : ℕ) (s : Stored) (w : Walk d ws at s) (r : Seen) (sees : r ≡ seenAt ws at) (a : DeckAnswer) → a ≡ deckLineOf (deckLine (lineIn ws (r .text) (r .next)))
     → (kinds after : List ℕ) → after ≡ kindPut kinds (r .owner) a → (t : List Stored) → kindsOf (s ∷ t) kinds ≡ kindsOf t after
 shown-kind d ws at s w r sees a reads kinds after e t =
     let o : r .owner ≡ s .card .owner = shown-owner d ws at s w r sees in

@@ -1,25 +1,35 @@
 -- The rows of an image that the check accepts are those of its library. Assumes nothing.
 --   kinds-are                 each entry's kind
+--   flags-are                 each entry's flag
 --   rows-are                  each entry's row
 --   listed-short, listed-all  the rows in their space
-use Prim.Native.Nat.{ℕ, zero, suc, _+_, _-_, _*_, _≤_, _<_}
+use Prim.Native.Nat.{ℕ, zero, suc, _-_, _*_, _≤_, _<_}
 use native.Mathlib.Omega.{arith}
 use mathlib.Core.Path.{_≡_, refl, sym, ap, _∙_, subst}
+use mathlib.Core.Bool.{Bool, true, false}
 use mathlib.Core.List.{List, [], _∷_, _++_}
 use borrow.Author.Tests.{le-leb, lt-leb}
+use lib.Dec.{eqb}
 use lib.ListN.{length, getD, drop, length-append}
+use Rattle.words.specs.Base.{if_then_else_}
 use Rattle.words.specs.Names.{leftJustified}
 use Rattle.library.specs.Library.{Deck, Library, nameAt}
 use Rattle.library.specs.Yanks.{yanked}
+use Rattle.library.specs.Image.{cardsWords}
 use Rattle.library.specs.Check.{good, check, directoryCount, directoryOf, cardsPlace, partsOf}
-use Rattle.library.specs.Found.{Tabled}
-use Rattle.library.specs.Walks.{Spans}
-use Rattle.library.specs.Rows.{flagged, Flags}
 use Rattle.library.proofs.Accepted.{check-accepted}
 use Rattle.library.proofs.CheckSound.{check-sound}
-use Rattle.library.proofs.Tabling.{tabled}
-use Rattle.library.proofs.Checking.{cards-of}
-use Rattle.library.proofs.Spanning.{walks-span}
+use Rattle.library.proofs.CheckEncode.{check-encode}
+use Rattle.rows.specs.Found.{Tabled}
+use Rattle.rows.proofs.Tabling.{tabled}
+use Rattle.image.specs.Bytes.{part, flagged}
+use Rattle.image.specs.Places.{deckEnd}
+use Rattle.image.specs.Flags.{settledFlags}
+use Rattle.image.proofs.Encoded.{yanks-part}
+use Rattle.image.proofs.Yanking.{settled-yanked}
+use Rattle.checks.specs.Walks.{Spans}
+use Rattle.checks.proofs.Walking.{read-walks}
+use Rattle.checks.proofs.Spanning.{walks-span}
 use Rattle.keeper.specs.Keeper.{entryName, deckKind, purgedOr, kindOf, yankMark, rowOf, firstRows, rowsOf, listed}
 use Rattle.keeper.specs.Parts.{Answers, wordName, rowBytes, rowAt, kindsOf, Kinds}
 use Rattle.keeper.specs.declared.Told.the-variants.{Done, Space}
@@ -35,7 +45,7 @@ module _ (ws : List ℕ) (l : Library) (e : check ws ≡ good l) where
         let a = check-accepted ws l e in
         let tab : Tabled ws = tabled ws (a .tables) in
         let sp : Spans (directoryOf ws) ws (cardsPlace ws) (length ws) (a .stored) =
-        walks-span (directoryOf ws) ws (cardsPlace ws) (a .stored) (tab .inside) (cards-of ws (a .stored) (a .read) .walks) in
+        walks-span (directoryOf ws) ws (cardsPlace ws) (a .stored) (tab .inside) (read-walks (directoryOf ws) ws 16383 (cardsPlace ws) (a .stored) (a .read) .0) in
         let is : kinds ≡ kindsOf (a .stored) sets = subst (λ (f : ℕ). Kinds ws f sets kinds) p k (directoryOf ws) (a .stored) sp in
         let same : partsOf (a .stored) .decks ≡ l .decks = ap (λ (m : Library). m .decks) (a .same) in
         ap (λ (r : List ℕ). getD r n 0) (is ∙ cards-decks (a .stored) sets ∙ ap (λ (ds : List Deck). decksKinds ds sets) same)
@@ -44,14 +54,28 @@ module _ (ws : List ℕ) (l : Library) (e : check ws ≡ good l) where
   few : directoryCount ws ≤ 1023
   few = tabled ws (check-accepted ws l e .tables) .entries
 
-  module _ (kinds flags : List ℕ) (right : (n : ℕ) → n < 1024 → getD kinds n 0 ≡ deckKind n (l .decks)) (yanks : Flags ws flags) where
+  pub flags-are : (d : List ℕ) (from : ℕ) (flags : List ℕ) → d ≡ directoryOf ws → from ≡ cardsPlace ws → flags ≡ settledFlags d (part from (deckEnd ws from) ws) 1024
+      → (n : ℕ) → flagged flags n ≡ yanked l 0 n
+  flags-are d from flags ed ef is n =
+      let cards : List ℕ = cardsWords (yanked l 0) (l .yanks) in
+      let words : part from (deckEnd ws from) ws ≡ cards =
+      ap (λ (m : ℕ). part m (deckEnd ws m) ws) ef ∙ subst (λ (x : List ℕ). part (cardsPlace x) (deckEnd x (cardsPlace x)) x ≡ cards) (check-encode ws l e) (yanks-part l (check-sound ws l e)) in
+      let said : flags ≡ settledFlags (l .directory) cards 1024 = is ∙ (λ i. settledFlags ((ed ∙ sym (directory-is ws l e)) i) (words i) 1024) in
+      ap (λ (fs : List ℕ). flagged fs n) said
+      ∙ ap (λ (x : ℕ). eqb x 1) (settled-yanked l (check-sound ws l e) (yanked l 0) 1024 (omega (arith, few, count-is ws l e)) n) ∙ one (yanked l 0 n)
+    where
+      one : (b : Bool) → eqb (if b then 1 else 0) 1 ≡ b
+      one true = refl
+      one false = refl
+
+  module _ (kinds flags : List ℕ) (right : (n : ℕ) → n < 1024 → getD kinds n 0 ≡ deckKind n (l .decks)) (yanks : (n : ℕ) → flagged flags n ≡ yanked l 0 n) where
     row-is : (n : ℕ) → 0 < n → n ≤ directoryCount ws → rowAt (directoryOf ws) kinds flags n ≡ rowOf l n
     unfolding rowAt rowBytes rowOf kindOf
     row-is n pos h =
         let w : getD (directoryOf ws) (n - 1) 0 ≡ nameAt (l .directory) n = ap (λ (d : List ℕ). nameAt d n) (sym (directory-is ws l e)) in
         let name : wordName (getD (directoryOf ws) (n - 1) 0) ≡ entryName (l .directory) n = ap wordName w ∙ name-is ws l e n pos h in
         let k : getD kinds n 0 ≡ deckKind n (l .decks) = right n (omega (arith, few)) in
-        let y : flagged flags n ≡ yanked l 0 n = yanks l e 0 n in
+        let y : flagged flags n ≡ yanked l 0 n = yanks n in
         λ i. leftJustified 9 (name i) ++ (purgedOr (w i) (k i) ∷ yankMark (y i) ∷ [])
 
     first-are : (n : ℕ) → n ≤ directoryCount ws → firstRows (rowAt (directoryOf ws) kinds flags) n ≡ firstRows (rowOf l) n

@@ -43,7 +43,7 @@ pub fn card(image: &[u64], owner: u64, seq: u64, out: &mut [u8]) -> Told
     ensures answer { λ r. ⌜ r ≡ told (naming (now (image .entry)) owner seq (length (now (out .entry)))) ⌝ }
     ensures space { λ _. ⌜ now (out .exit) ≡ showInto (naming (now (image .entry)) owner seq (length (now (out .entry)))) (now (out .entry)) ⌝ }
 {
-    match library::check(image) {
+    match checks::check(image) {
         Checked::Sound => card_sound(image, owner, seq, out),
         Checked::Refused(fault, place) => Told::Library(fault, place),
     }

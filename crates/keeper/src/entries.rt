@@ -1,6 +1,5 @@
 // Entries of the directory (01, "Directory").
 ghost use mathlib.Core.Path.{_≡_};
-ghost use lib.ListN.{getD};
 ghost use Rattle.keeper.specs.Parts.{entryWord};
 
 // word 2: directory count in 35-18, deck count in 17-00
@@ -11,13 +10,6 @@ pub(crate) const COUNT: u64 = 0o1000000;
 // the directory stands after the two words of the header
 pub(crate) const DIRECTORY: usize = 2;
 
-// The word at a place, 0 past the end.
-fn word_at(image: &[u64], at: usize) -> u64
-    ensures { λ r. ⌜ r ≡ getD (now (image .entry)) at 0 ⌝ }
-{
-    if at < image.len() { image[at] } else { 0 }
-}
-
 // The word of an entry, 0 outside the directory.
 pub(crate) fn entry_word(image: &[u64], n: u64) -> u64
     ensures { λ r. ⌜ r ≡ entryWord (now (image .entry)) n ⌝ }
@@ -25,8 +17,8 @@ pub(crate) fn entry_word(image: &[u64], n: u64) -> u64
     if n == 0 {
         return 0;
     }
-    if word_at(image, COUNTS) / COUNT < n {
+    if image::word_at(image, COUNTS) / COUNT < n {
         return 0;
     }
-    word_at(image, n as usize + 1)
+    image::word_at(image, n as usize + 1)
 }

@@ -30,9 +30,9 @@ pub(crate) fn put_kinds(image: &[u64], from: usize, kinds: &mut [u8])
 {
     let mut at = from;
     while at < image.len() {
-        let c = library::see(image, at);
+        let c = image::see(image, at);
         let next = c.next;
-        put_kind(kinds, c.owner, library::deck_at(image, c.text, next));
+        put_kind(kinds, c.owner, image::deck_at(image, c.text, next));
         at = next;
     }
 }

@@ -5,13 +5,13 @@ ghost use Rattle.keeper.specs.Keeper.{begunNumber, begunValue, toldNumbe
 mod bytes;
 mod cards;
 mod entries;
+mod entry_rows;
 mod kinds;
-mod rows;
 mod start;
 
 pub use cards::card;
+pub use entry_rows::directory;
 use library::Fault;
-pub use rows::directory;
 pub use start::fresh;
 
 // 01's rows

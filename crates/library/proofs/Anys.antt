@@ -1,8 +1,9 @@
 -- What `any` and `all` say of a member, and of a list in which none passes.
 use Prim.Native.Nat.{ℕ}
+use native.Mathlib.Omega.{arith}
 use mathlib.Core.Path.{_≡_, refl, sym, ap, ap₂, _∙_, subst}
 use mathlib.Core.Bool.{Bool, true, false, _&&_, _||_}
-use mathlib.Core.List.{List, [], _∷_}
+use mathlib.Core.List.{List, [], _∷_, map}
 use lib.Dec.{T, eqb, eqb→eq}
 use Rattle.words.specs.Base.{any, all, member}
 use Rattle.library.specs.Each.{Each}
@@ -47,3 +48,10 @@ any-member p (x ∷ ns) n t q =
     here : (a : Bool) → T a → (a || any p ns) ≡ true
     here true t = refl
     here false t = absurd t
+
+pub any-map : {A B : Type 0} (q : B → Bool) (g : A → B) (xs : List A) → any q (map g xs) ≡ any (λ x. q (g x)) xs
+any-map q g [] = refl
+any-map q g (x ∷ xs) = ap (λ (b : Bool). q (g x) || b) (any-map q g xs)
+
+pub no-true : {A : Type 0} → false ≡ true → A
+no-true e = absurd (let z : _≡_ {A = ℕ} 0 1 = cc in omega arith)

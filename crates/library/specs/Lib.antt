@@ -8,8 +8,4 @@ pub mod Sound
 pub mod Exact
 pub mod Growth
 pub mod Alike
-pub mod Walks
-pub mod Found
-pub mod WordForm
-pub mod KeyTree
-pub mod Rows
+pub mod Asked

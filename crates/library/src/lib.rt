@@ -1,23 +1,14 @@
-// Cards and libraries: the card's form, the directory, the deck list, yanks and activity, the check of an image.
+// Libraries: what they are, how they are written in words, when an image is one, and what the check of an image answers.
 ghost use mathlib.Core.Path.{_≡_};
 ghost use Rattle.library.specs.Check.{faultNumber, checkedNumber, checkedPlace};
 
-mod bits;
-mod cards;
-mod decks;
-mod tables;
-mod twice;
-mod whole;
-mod yanks;
+mod fixed;
+mod titles;
 
-pub use cards::see;
-pub use decks::cards_end;
-pub use decks::deck_at;
-pub use decks::deck_line;
-pub use tables::header_word;
-pub use tables::reserved_word;
-pub use whole::check;
-pub use whole::yank_flags;
+pub use fixed::header_word;
+pub use fixed::reserved_word;
+pub use titles::asks_yank;
+pub use titles::deck_line;
 
 // Why an image is no library: 01's rows 1 to 10.
 pub enum Fault {

@@ -15,9 +15,10 @@ use Rattle.lines.specs.declared.CardName.{CardName}
 use Rattle.lines.specs.declared.Line.the-variants.{Insert, Before}
 use Rattle.library.specs.Library.{Card, Deck, Library, deckCards, parts, stream, joined, entryOf}
 use Rattle.library.specs.Yanks.{yanked}
-use Rattle.run.specs.Step.{TextPlace, inYanks, inDeck, State, Step, went, refused, refuse, isSet, inSet, withPlace, Spot, isNamed, find, isYankPart, isDeckSpot, placeAfter, insertAfter, insertBefore, obey, step}
-use Rattle.run.specs.Safe.{Safe}
-use Rattle.run.specs.Flat.{indexBy, ahead, Stood, flat, FoundAs, HasPlace, flatPlace, deckNumbers}
+use Rattle.library.specs.Sound.{noTwo, sameCard}
+use Rattle.corrections.specs.Step.{TextPlace, inYanks, inDeck, State, Step, went, refused, refuse, isSet, inSet, withPlace, Spot, isNamed, find, isYankPart, isDeckSpot, placeAfter, insertAfter, insertBefore, obey, step}
+use Rattle.corrections.specs.Safe.{Safe}
+use Rattle.corrections.specs.Flat.{indexBy, ahead, Stood, flat, FoundAs, HasPlace, flatPlace, deckNumbers}
 use Rattle.run.specs.GapWords.{Ordered}
 use Rattle.run.specs.CardSeek.{indexOf}
 use Rattle.run.specs.SettledBits.{flagged}
@@ -31,12 +32,12 @@ use Rattle.run.specs.declared.desk.TextAt.the-variants.{Gap as TextGap}
 use Rattle.run.specs.declared.desk.Stepped.{Stepped}
 use Rattle.run.specs.declared.desk.Stepped.the-variants.{Went as SteppedOn, Refused as SteppedOff}
 use Rattle.run.specs.declared.fixes.Sought.{Sought}
-use Rattle.run.specs.declared.Why.{Why}
-use Rattle.run.specs.declared.Why.the-variants.{Nowhere, NoCard, Barred}
-use Rattle.run.proofs.Went.{Went}
-use Rattle.run.proofs.StepSound.{step-safe}
-use Rattle.run.proofs.FlatFind.{ownOf, find-unknown, find-flat, stood-below, yank-part-flat, ltb-yes, ltb-no, eqb-yes, eqb-no}
-use Rattle.run.proofs.FlatDecks.{deck-spot-named}
+use Rattle.corrections.specs.declared.Why.{Why}
+use Rattle.corrections.specs.declared.Why.the-variants.{Nowhere, NoCard, Barred}
+use Rattle.corrections.proofs.Went.{Went}
+use Rattle.corrections.proofs.StepSound.{step-safe}
+use Rattle.corrections.proofs.FlatFind.{ownOf, find-unknown, find-flat, stood-below, yank-part-flat, ltb-yes, ltb-no, eqb-yes, eqb-no}
+use Rattle.corrections.proofs.FlatDecks.{deck-spot-named}
 
 -- THE SEARCH
 index-same : (o s : ℕ) (cs : List Card) → indexOf o s cs ≡ indexBy (isNamed o s) cs
@@ -49,7 +50,7 @@ seek-unknown w dir d r at e names decks flags s held =
     subst (SoughtAs (s .lib) (d .gap) (held .below) (held .above) r (record { own = 0; at = at; index = d .cards }))
     (sym (find-unknown (s .lib) r (ap (λ (ds : List ℕ). entryOf ds (r .name)) (sym (held .tables .directory)) ∙ e))) (held .cards)
 
-pub seek-known : (w dir : List ℕ) (d : Desk) (r : CardName) (own : ℕ) (p : Place) → own ≡ entryOf (take (d .entries) dir) (r .name) → 0 < own → Locates w (d .gap) own (r .seq) p
+pub seek-known : (w dir : List ℕ) (d : Desk) (r : CardName) (own : ℕ) (p : Place) → own ≡ entryOf (take (d .entries) dir) (r .name) → 0 < own → Locates w (d .gap) (d .low) own (r .seq) p
     → SeeksCard w dir d r (record { own = own; at = p .at; index = p .index })
 seek-known w dir d r own p e pos locates names decks flags s held = go (find l r) (find-flat l r (omega (arith, known)))
   where
@@ -60,7 +61,9 @@ seek-known w dir d r own p e pos locates names decks flags s held = go (find l r
     known = e ∙ ap (λ (ds : List ℕ). entryOf ds (r .name)) (held .tables .directory)
 
     located : Located w (d .gap) (yanked l 0) (held .below) (held .above) own (r .seq) p
-    located = locates (yanked l 0) (held .below) (held .above) (held .work)
+    located =
+        locates (yanked l 0) (held .below) (held .above) (held .work) (held .low)
+        (subst (λ (cs : List Card). T (noTwo sameCard cs)) (sym (held .whole)) (held .safe .sound .once))
 
     index : p .index ≡ indexBy (isNamed own (r .seq)) (stream l)
     index = located .index ∙ index-same own (r .seq) (held .below ++ held .above) ∙ ap (indexBy (isNamed own (r .seq))) (held .whole)
@@ -100,31 +103,41 @@ place-ahead l (suc k) (suc i) n h e f q =
     (subst (λ (x : ℕ). TextGoes l n TextGap (inDeck k x)) j (ahead-place (l .decks) k i h, omega (arith, q)))
 
 -- THE GAP MOVED: the state with text at the gap
-abbrev pub movedDesk : Desk → Gap → Desk
-movedDesk d h =
-    record { gap = h; entries = d .entries; decks = d .decks; cards = d .cards; yanks = d .yanks; lead = d .lead; set = d .set; next = d .next; place = TextGap }
+abbrev pub movedDesk : Desk → Gap → ℕ → Desk
+movedDesk d h n =
+    record { gap = h; low = n; entries = d .entries; decks = d .decks; cards = d .cards; yanks = d .yanks; lead = d .lead; set = d .set; next = d .next; place = TextGap }
 
-pub moved-sane : (w v : List ℕ) (d : Desk) (h : Gap) → Sane w d → length v ≡ length w → Ordered w h → Sane v (movedDesk d h)
-moved-sane w v d h sane same o =
-    record { ordered = (o .0, omega (arith, o .1, same)); room = same ∙ sane .room; entries = sane .entries; decks = sane .decks; cards = sane .cards; next = sane .next }
+pub moved-sane : (w v : List ℕ) (d : Desk) (h : Gap) (n : ℕ) → Sane w d → length v ≡ length w → Ordered w h → n ≤ d .cards → Sane v (movedDesk d h n)
+moved-sane w v d h n sane same o few =
+    record {
+      ordered = (o .0, omega (arith, o .1, same));
+      room = same ∙ sane .room;
+      entries = sane .entries;
+      decks = sane .decks;
+      cards = sane .cards;
+      next = sane .next;
+      yanks = sane .yanks;
+      low = few;
+    }
 
 module _ (w v dir names decks flags line : List ℕ) (d : Desk) (h : Gap) (s : State) (held : Held w dir names decks flags d s) where
   cut-length : (n : ℕ) → n ≤ length (stream (s .lib)) → length (take n (held .below ++ held .above)) ≡ n
   cut-length n le = length-take-le n (held .below ++ held .above) (subst (λ (cs : List Card). n ≤ length cs) (sym (held .whole)) le)
 
-  moved-held : (n : ℕ) (p : TextPlace) → step s line ≡ went (withPlace s p) → Work v h (yanked (s .lib) 0) (take n (held .below ++ held .above)) (drop n (held .below ++ held .above))
-      → TextGoes (s .lib) (length (take n (held .below ++ held .above))) TextGap p → Answered v dir names decks flags (SteppedOn (movedDesk d h)) (step s line)
-  moved-held n p e work goes = subst (λ (x : Step). Answered v dir names decks flags (SteppedOn (movedDesk d h)) x) (sym e) new
+  moved-held : (n : ℕ) (p : TextPlace) → length (take n (held .below ++ held .above)) ≡ n → step s line ≡ went (withPlace s p) → Work v h (yanked (s .lib) 0) (take n (held .below ++ held .above)) (drop n (held .below ++ held .above))
+      → TextGoes (s .lib) (length (take n (held .below ++ held .above))) TextGap p → Answered v dir names decks flags (SteppedOn (movedDesk d h n)) (step s line)
+  moved-held n p cut e work goes = subst (λ (x : Step). Answered v dir names decks flags (SteppedOn (movedDesk d h n)) x) (sym e) new
     where
       safe : Safe (withPlace s p)
       safe = subst (Went Safe) e (step-safe s line (held .safe))
 
-      new : Held v dir names decks flags (movedDesk d h) (withPlace s p)
+      new : Held v dir names decks flags (movedDesk d h n) (withPlace s p)
       new = record {
         below = take n (held .below ++ held .above);
         above = drop n (held .below ++ held .above);
         work = work;
         whole = take-append-drop n (held .below ++ held .above) ∙ held .whole;
+        low = sym cut;
         cards = held .cards;
         tables = record { directory = held .tables .directory; entries = held .tables .entries; listed = held .tables .listed; count = held .tables .count; marked = held .tables .marked };
         yanks = held .yanks;
@@ -172,14 +185,14 @@ module _ (w dir : List ℕ) (d : Desk) (r : CardName) (v names decks flags line 
         (yank-part-flat (s .lib) a (h .stood) ∙ ltb-yes (flat (s .lib) a) (length (s .lib .yanks)) (omega (arith, h .index, held .yanks))))
 
     insert-went : f .index < d .cards → d .yanks ≤ f .index → (g : Gap) → OpensAfter w (d .gap) (f .at) v g → (o : Option Spot) → find (s .lib) r ≡ o
-        → SoughtAs (s .lib) (d .gap) (held .below) (held .above) r f o → Answered v dir names decks flags (SteppedOn (movedDesk d g)) (step s line)
+        → SoughtAs (s .lib) (d .gap) (held .below) (held .above) r f o → Answered v dir names decks flags (SteppedOn (movedDesk d g (f .index + 1))) (step s line)
     insert-went lt y g opens none e h = absurd (omega (arith, h, held .cards))
     insert-went lt y g opens (some a) e h =
         let part : isYankPart a ≡ false = yank-part-flat (s .lib) a (h .stood) ∙ ltb-no (flat (s .lib) a) (length (s .lib .yanks)) (omega (arith, h .index, held .yanks)) in
         let here : f .index < length (held .below ++ held .above) = subst (λ (cs : List Card). f .index < length cs) (sym (held .whole)) (omega (arith, held .cards)) in
         let within : f .index + 1 ≤ length (stream (s .lib)) = omega (arith, held .cards) in
         let cut : length (take (f .index + 1) (held .below ++ held .above)) ≡ f .index + 1 = cut-length w v dir names decks flags line d g s held (f .index + 1) within in
-        moved-held w v dir names decks flags line d g s held (f .index + 1) (inDeck (a .part - 1) (a .index))
+        moved-held w v dir names decks flags line d g s held (f .index + 1) (inDeck (a .part - 1) (a .index)) cut
         (insert-obeyed true (some a) on e ∙ ap (λ (b : Bool). refuse b Barred (went (withPlace s (if b then inYanks else inDeck (a .part - 1) (a .index))))) part)
         (opens (yanked (s .lib) 0) (held .below) (held .above) (f .index) (held .work) (h .stands) here)
         (place-behind (s .lib) (a .part) (a .index) (length (take (f .index + 1) (held .below ++ held .above))) (h .stood) part (omega (arith, cut, h .index)))
@@ -194,7 +207,7 @@ module _ (w dir : List ℕ) (d : Desk) (r : CardName) (v : List ℕ) (on : d .se
   pub insert-yanks : f .index < d .cards → f .index < d .yanks → InsertSteps w dir d r v (SteppedOff Barred)
   insert-yanks lt y names decks flags line s asks held = insert-barred w dir d r v names decks flags line s asks held on f lt y (find (s .lib) r) refl (seeks names decks flags s held)
 
-  pub insert-on : f .index < d .cards → d .yanks ≤ f .index → (g : Gap) → OpensAfter w (d .gap) (f .at) v g → InsertSteps w dir d r v (SteppedOn (movedDesk d g))
+  pub insert-on : f .index < d .cards → d .yanks ≤ f .index → (g : Gap) → OpensAfter w (d .gap) (f .at) v g → InsertSteps w dir d r v (SteppedOn (movedDesk d g (f .index + 1)))
   insert-on lt y g opens names decks flags line s asks held = insert-went w dir d r v names decks flags line s asks held on f lt y g opens (find (s .lib) r) refl (seeks names decks flags s held)
 
 -- BEFORE
@@ -240,7 +253,7 @@ module _ (w dir : List ℕ) (d : Desk) (r : CardName) (v names decks flags line 
     before-titled lt m (some a) e h = barred a (or-true (isYankPart a) (isDeckSpot a) (is-titled lt a h ∙ m)) e
 
     before-went : f .index < d .cards → d .yanks ≤ f .index → (eqb (r .seq) 1 && flagged decks (f .own)) ≡ false → (g : Gap) → OpensAhead w (d .gap) (f .at) v g
-        → (o : Option Spot) → find (s .lib) r ≡ o → SoughtAs (s .lib) (d .gap) (held .below) (held .above) r f o → Answered v dir names decks flags (SteppedOn (movedDesk d g)) (step s line)
+        → (o : Option Spot) → find (s .lib) r ≡ o → SoughtAs (s .lib) (d .gap) (held .below) (held .above) r f o → Answered v dir names decks flags (SteppedOn (movedDesk d g (f .index))) (step s line)
     before-went lt y m g opens none e h = absurd (omega (arith, h, held .cards))
     before-went lt y m g opens (some a) e h =
         let part : isYankPart a ≡ false = yank-part-flat (s .lib) a (h .stood) ∙ ltb-no (flat (s .lib) a) (length (s .lib .yanks)) (omega (arith, h .index, held .yanks)) in
@@ -249,7 +262,7 @@ module _ (w dir : List ℕ) (d : Desk) (r : CardName) (v names decks flags line 
         let here : f .index ≤ length (held .below ++ held .above) = subst (λ (cs : List Card). f .index ≤ length cs) (sym (held .whole)) (omega (arith, held .cards)) in
         let within : f .index ≤ length (stream (s .lib)) = omega (arith, held .cards) in
         let cut : length (take (f .index) (held .below ++ held .above)) ≡ f .index = cut-length w v dir names decks flags line d g s held (f .index) within in
-        moved-held w v dir names decks flags line d g s held (f .index) (inDeck (a .part - 1) (a .index - 1))
+        moved-held w v dir names decks flags line d g s held (f .index) (inDeck (a .part - 1) (a .index - 1)) cut
         (before-obeyed true (some a) on e ∙ ap₂ (λ (b c : Bool). refuse (b || c) Barred (went (withPlace s (inDeck (a .part - 1) (a .index - 1))))) part deck)
         (opens (yanked (s .lib) 0) (held .below) (held .above) (f .index) (held .work) (h .stands) here)
         (place-ahead (s .lib) (a .part) (a .index) (length (take (f .index) (held .below ++ held .above))) (h .stood) part index (omega (arith, cut, h .index)))
@@ -268,7 +281,7 @@ module _ (w dir decks : List ℕ) (d : Desk) (r : CardName) (v : List ℕ) (on :
   before-deck lt m names flags line s asks held = before-titled w dir d r v names decks flags line s asks held on f lt m (find (s .lib) r) refl (seeks names decks flags s held)
 
   pub before-on : f .index < d .cards → d .yanks ≤ f .index → titled decks (f .own) (r .seq) ≡ false → (g : Gap) → OpensAhead w (d .gap) (f .at) v g
-      → BeforeSteps w dir decks d r v (SteppedOn (movedDesk d g))
+      → BeforeSteps w dir decks d r v (SteppedOn (movedDesk d g (f .index)))
   before-on lt y m g opens names flags line s asks held = before-went w dir d r v names decks flags line s asks held on f lt y m g opens (find (s .lib) r) refl (seeks names decks flags s held)
 
 -- the test in code: number 1, and then the flag

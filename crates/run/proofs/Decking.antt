@@ -19,26 +19,27 @@ use Rattle.library.specs.Image.{cardsWords, shortHistory}
 use Rattle.library.specs.Sound.{Sound}
 use Rattle.library.proofs.Appends.{any-append, map-append}
 use Rattle.library.proofs.Directories.{deck-names-append, name-end}
-use Rattle.run.specs.Step.{inDeck, State, Step, refused, refuse, limited, isKnown, newDeck, withDecks, withEntry, afterDeck, putDeck, obey, step}
-use Rattle.run.specs.Safe.{Safe}
-use Rattle.run.specs.Flat.{ahead, HasPlace, flatPlace, deckNumbers}
+use Rattle.corrections.specs.Step.{inDeck, State, Step, refused, refuse, limited, isKnown, newDeck, withDecks, withEntry, afterDeck, putDeck, obey, step}
+use Rattle.corrections.specs.Safe.{Safe}
+use Rattle.corrections.specs.Flat.{ahead, HasPlace, flatPlace, deckNumbers}
 use Rattle.run.specs.GapWords.{Ordered}
 use Rattle.run.specs.CardHeads.{cardOf}
 use Rattle.run.specs.SettledBits.{flagged}
 use Rattle.run.specs.Work.{Work, Stands, OpensAhead, PutCard}
 use Rattle.run.specs.Desk.{fitted, Sane, TextGoes, Tables, Held, Answered}
 use Rattle.run.specs.Obeyed.{PutsLine, asksDeck, DeckSteps}
+use Rattle.run.specs.YankNames.{unknownIn}
 use Rattle.run.specs.declared.gap.Gap.{Gap}
 use Rattle.run.specs.declared.desk.Desk.{Desk}
 use Rattle.run.specs.declared.desk.TextAt.the-variants.{Gap as TextGap}
 use Rattle.run.specs.declared.desk.Stepped.the-variants.{Refused as SteppedOff}
-use Rattle.run.specs.declared.Why.the-variants.{Known}
-use Rattle.run.proofs.FlatFind.{bool-iff, eqb-yes, eqb-no}
-use Rattle.run.proofs.FlatStream.{cards-append, deck-flat}
-use Rattle.run.proofs.FlatFlags.{flags-entry, above-free}
-use Rattle.run.proofs.FlatLimits.{words, words-under, within-small}
+use Rattle.corrections.specs.declared.Why.the-variants.{Known}
+use Rattle.corrections.proofs.FlatFind.{bool-iff, eqb-yes, eqb-no}
+use Rattle.corrections.proofs.FlatStream.{cards-append, deck-flat}
+use Rattle.corrections.proofs.FlatFlags.{flags-entry, above-free}
+use Rattle.corrections.proofs.FlatLimits.{words, words-under, within-small}
 use Rattle.run.proofs.Stepping.{work-words, Counted, limited-answer}
-use Rattle.run.proofs.Starting.{known-reserved, known-entry, known-not}
+use Rattle.run.proofs.Starting.{known-is}
 
 -- THE END OF THE STREAM
 -- the index past the last card stands at the array's end
@@ -113,10 +114,10 @@ deck-readable line false word e = line-readable line (ap lineNumber e)
 -- DECK, COMDECK
 abbrev pub deckDesk : Desk → Gap → Desk
 deckDesk d h =
-    record { gap = h; entries = d .entries + 1; decks = d .decks + 1; cards = d .cards + 1; yanks = d .yanks; lead = d .lead; set = false; next = 2; place = TextGap }
+    record { gap = h; low = d .cards + 1; entries = d .entries + 1; decks = d .decks + 1; cards = d .cards + 1; yanks = d .yanks; lead = d .lead; set = false; next = 2; place = TextGap }
 
 module _ (w dir names decks : List ℕ) (d : Desk) (word : ℕ) (line mid : List ℕ) (g : Gap) (v : List ℕ) (h : Gap) (sane : Sane w d)
-    (long : 1023 < length dir) (wide : 255 < length names) (flat : 1024 < length decks) (other : word ≡ reserved → ⊥) (unknown : entryOf (take (d .entries) dir) word ≡ 0)
+    (long : 1023 < length dir) (wide : 255 < length names) (flat : 1024 < length decks) (unknown : unknownIn (take (d .entries) dir) word ≡ true)
     (opens : OpensAhead w (d .gap) (length w) mid g) (half : length mid ≡ length w) (same : length v ≡ 65536) (high : h .hi ≤ length mid) (puts : PutsLine mid g line 1 (d .entries + 1) v h)
     (common : Bool) (flags : List ℕ) (s : State) (asks : directive line ≡ asksDeck common word) (held : Held w dir names decks flags d s) where
   abbrev l : Library
@@ -189,6 +190,7 @@ module _ (w dir names decks : List ℕ) (d : Desk) (word : ℕ) (line mid : List
         above = [];
         work = subst (λ (k : ℕ → Bool). Work v h k (cs ++ (c ∷ [])) []) (sym f) (putted .work le);
         whole = sym streamed;
+        low = let n : length cs ≡ length (stream l) = ap length (held .whole) in omega (arith, held .cards, length-append cs (c ∷ []));
         cards = counted .cards;
         tables = new;
         yanks = held .yanks;
@@ -203,22 +205,17 @@ module _ (w dir names decks : List ℕ) (d : Desk) (word : ℕ) (line mid : List
   deck-answer : Answered v (set dir (d .entries) word) (set names (d .decks + 1) word) (set decks (d .entries + 1) 1) flags (fitted (deckDesk d h)) (step s line)
   deck-answer =
       limited-answer v (set dir (d .entries) word) (set names (d .decks + 1) word) (set decks (d .entries + 1) 1) flags (deckDesk d h) t counted s line
-      (deck-obeyed s line common word false asks (known-not l word other (subst (λ (ds : List ℕ). entryOf ds word ≡ 0) (held .tables .directory) unknown))) (held .safe) after
+      (deck-obeyed s line common word false asks (known-is l (take (d .entries) dir) word true (held .tables .directory) unknown)) (held .safe) after
 
-pub deck-reserved : (w dir names decks : List ℕ) (d : Desk) (word : ℕ) (line v newDir newNames newDecks : List ℕ) → word ≡ reserved
+pub deck-known : (w dir names decks : List ℕ) (d : Desk) (word : ℕ) (line v newDir newNames newDecks : List ℕ) → unknownIn (take (d .entries) dir) word ≡ false
     → DeckSteps w dir names decks d word line v newDir newNames newDecks (SteppedOff Known)
-deck-reserved w dir names decks d word line v newDir newNames newDecks e common flags s asks held =
-    subst (λ (x : Step). Answered v newDir newNames newDecks flags (SteppedOff Known) x) (sym (deck-obeyed s line common word true asks (known-reserved (s .lib) word e))) refl
-
-pub deck-twice : (w dir names decks : List ℕ) (d : Desk) (word : ℕ) (line v newDir newNames newDecks : List ℕ) → 0 < entryOf (take (d .entries) dir) word
-    → DeckSteps w dir names decks d word line v newDir newNames newDecks (SteppedOff Known)
-deck-twice w dir names decks d word line v newDir newNames newDecks pos common flags s asks held =
+deck-known w dir names decks d word line v newDir newNames newDecks e common flags s asks held =
     subst (λ (x : Step). Answered v newDir newNames newDecks flags (SteppedOff Known) x)
-    (sym (deck-obeyed s line common word true asks (known-entry (s .lib) word (subst (λ (ds : List ℕ). 0 < entryOf ds word) (held .tables .directory) pos)))) refl
+    (sym (deck-obeyed s line common word true asks (known-is (s .lib) (take (d .entries) dir) word false (held .tables .directory) e))) refl
 
 pub deck-on : (w dir names decks : List ℕ) (d : Desk) (word : ℕ) (line mid : List ℕ) (g : Gap) (v : List ℕ) (h : Gap) → Sane w d → 1023 < length dir → 255 < length names → 1024 < length decks
-    → (word ≡ reserved → ⊥) → entryOf (take (d .entries) dir) word ≡ 0 → OpensAhead w (d .gap) (length w) mid g → length mid ≡ length w → length v ≡ 65536 → h .hi ≤ length mid
+    → unknownIn (take (d .entries) dir) word ≡ true → OpensAhead w (d .gap) (length w) mid g → length mid ≡ length w → length v ≡ 65536 → h .hi ≤ length mid
     → PutsLine mid g line 1 (d .entries + 1) v h
     → DeckSteps w dir names decks d word line v (set dir (d .entries) word) (set names (d .decks + 1) word) (set decks (d .entries + 1) 1) (fitted (deckDesk d h))
-deck-on w dir names decks d word line mid g v h sane long wide flat other unknown opens half same high puts common flags s asks held =
-    deck-answer w dir names decks d word line mid g v h sane long wide flat other unknown opens half same high puts common flags s asks held
+deck-on w dir names decks d word line mid g v h sane long wide flat unknown opens half same high puts common flags s asks held =
+    deck-answer w dir names decks d word line mid g v h sane long wide flat unknown opens half same high puts common flags s asks held

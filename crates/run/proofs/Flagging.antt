@@ -10,7 +10,7 @@ use lib.Seq.{drop-cons, getD-take, getD-set-same, getD-set-other}
 use Rattle.words.specs.Base.{member}
 use Rattle.run.specs.SettledBits.{flagged}
 use Rattle.run.specs.Loaded.{NoFlags}
-use Rattle.run.proofs.FlatFind.{compared, eqb-yes, eqb-no}
+use Rattle.corrections.proofs.FlatFind.{compared, eqb-yes, eqb-no}
 
 -- CLEARED up to the flag i
 abbrev pub Cleared : List ℕ → ℕ → Type 0

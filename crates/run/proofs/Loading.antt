@@ -21,13 +21,13 @@ use Rattle.library.proofs.Each.{and-parts}
 use Rattle.library.proofs.EntryNames.{entry-name}
 use Rattle.run.specs.CardHeads.{Fits}
 use Rattle.run.specs.CardSeek.{indexOf}
-use Rattle.run.specs.Flat.{indexBy, deckNumbers, isDeckCard}
+use Rattle.corrections.specs.Flat.{indexBy, deckNumbers, isDeckCard}
 use Rattle.run.specs.SettledBits.{flagged}
 use Rattle.run.specs.Loaded.{titledCard, Readable}
-use Rattle.run.proofs.FlatFind.{eqb-yes, eqb-no}
-use Rattle.run.proofs.FlatStream.{encode-flat}
-use Rattle.run.proofs.FlatDecks.{deck-spot-card}
-use Rattle.run.proofs.FlatLimits.{words, encode-length, Small, within-small}
+use Rattle.corrections.proofs.FlatFind.{eqb-yes, eqb-no}
+use Rattle.corrections.proofs.FlatStream.{encode-flat}
+use Rattle.corrections.proofs.FlatDecks.{deck-spot-card}
+use Rattle.corrections.proofs.FlatLimits.{words, encode-length, Small, within-small}
 
 -- THE PARTS OF AN IMAGE
 module _ (old : List ℕ) (l : Library) (ok : check old ≡ good l) where

@@ -8,14 +8,14 @@ use lib.Dec.{T, eqb, eqb→eq}
 use lib.ListN.{length, take}
 use Rattle.library.specs.Library.{Card, Deck, Library, deckCards, parts, stream, deckNames}
 use Rattle.library.specs.Yanks.{yanked}
-use Rattle.run.specs.Step.{inDeck, unitNumber, changeAt, mark, overRange, numberAt, markIn, Spot, isDeckSpot, isBarred}
-use Rattle.run.specs.Flat.{ahead, Stood, flat, HasPlace, flatPlace}
+use Rattle.corrections.specs.Step.{inDeck, unitNumber, changeAt, mark, overRange, numberAt, markIn, Spot, isDeckSpot, isBarred}
+use Rattle.corrections.specs.Flat.{ahead, Stood, flat, HasPlace, flatPlace}
 use Rattle.run.specs.Desk.{TextGoes, Tables}
 use Rattle.run.specs.declared.desk.Desk.{Desk}
 use Rattle.run.specs.declared.desk.TextAt.the-variants.{Gap as TextGap}
-use Rattle.run.proofs.FlatFind.{stood-below}
-use Rattle.run.proofs.FlatFlags.{flags-decks}
-use Rattle.run.proofs.FlatLimits.{range-cards}
+use Rattle.corrections.proofs.FlatFind.{stood-below}
+use Rattle.corrections.proofs.FlatFlags.{flags-decks}
+use Rattle.corrections.proofs.FlatLimits.{range-cards}
 use Rattle.run.proofs.Texting.{ahead-change, tables-change}
 
 -- the marks of a range in deck k

@@ -7,7 +7,7 @@ use Rattle.lines.specs.Directive.{directive}
 use Rattle.lines.specs.declared.CardName.{CardName}
 use Rattle.lines.specs.declared.Line.{Line}
 use Rattle.lines.specs.declared.Line.the-variants.{Text, Skipped, Deck as DeckLine·, Comdeck, Ident, Insert, Before, Delete, Restore, Yank as YankLine, Outside as LineOutside, Long as LineLong, Malformed as LineMalformed, NotCarried as LineNotCarried}
-use Rattle.run.specs.Step.{obey, step}
+use Rattle.corrections.specs.Step.{obey, step}
 use Rattle.run.specs.Desk.{Sane}
 use Rattle.run.specs.Obeyed.{TextSteps, IdentSteps, DeckSteps}
 use Rattle.run.specs.Corrected.{InsertSteps, BeforeSteps}
@@ -16,7 +16,7 @@ use Rattle.run.specs.Streamed.{inArrays}
 use Rattle.run.specs.declared.desk.Desk.{Desk}
 use Rattle.run.specs.declared.desk.Stepped.{Stepped}
 use Rattle.run.specs.declared.desk.Stepped.the-variants.{Went as SteppedOn, Refused as SteppedOff}
-use Rattle.run.specs.declared.Why.the-variants.{Outside, Long, Malformed, NotCarried}
+use Rattle.corrections.specs.declared.Why.the-variants.{Outside, Long, Malformed, NotCarried}
 
 -- a line that is skipped, and those that are refused for what they are
 pub skipped-obeys : (a : Arrays) (d : Desk) (line : List ℕ) → directive line ≡ Skipped → ObeysLine a d line a (SteppedOn d)

@@ -211,9 +211,9 @@ module _ (w : List ℕ) (g : Gap) (order : Ordered w g) (yk : ℕ → Bool) (cs1
 
 -- BY PLACES
 module _ (w : List ℕ) (g : Gap) (order : Ordered w g) where
-  pub locates : (o s : ℕ) (r : Place) → Standings w g o s r → Locates w g o s r
-  locates o s r all yk cs1 cs2 k =
-      let t = all yk cs1 cs2 k in
+  pub locates : (low o s : ℕ) (r : Place) → Standings w g low o s r → Locates w g low o s r
+  locates low o s r all yk cs1 cs2 k el once =
+      let t = all yk cs1 cs2 k el once in
       let e : r .index ≡ indexOf o s (cs1 ++ cs2) = t .index in
       let le : indexOf o s (cs1 ++ cs2) ≤ length (cs1 ++ cs2) = index-le o s (cs1 ++ cs2) in
       record {

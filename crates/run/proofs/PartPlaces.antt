@@ -11,7 +11,7 @@ use lib.ListN.{length, take, length-append}
 use borrow.Author.Tests.{ltb-true, ltb-false}
 use Rattle.words.specs.Base.{placeFrom}
 use Rattle.library.specs.Library.{Card, joined}
-use Rattle.run.specs.Step.{spotIn, findFrom, isNamed}
+use Rattle.corrections.specs.Step.{spotIn, findFrom, isNamed}
 use Rattle.run.specs.CardSeek.{indexOf}
 use Rattle.run.proofs.Locating.{index-le, index-first, index-second}
 use Rattle.run.proofs.RangeCards.{place-from, place-none}

@@ -8,8 +8,8 @@ use mathlib.Core.Option.{Option, none, some}
 use lib.Dec.{T, eqb}
 use Rattle.lines.specs.Directive.{directive}
 use Rattle.lines.specs.declared.CardName.{CardName}
-use Rattle.run.specs.Step.{State, Step, refused, refuse, limited, isSet, inSet, Spot, find, isBackwards, isBarred, afterMark, markRange, obey, step}
-use Rattle.run.specs.Flat.{flat}
+use Rattle.corrections.specs.Step.{State, Step, refused, refuse, limited, isSet, inSet, Spot, find, isBackwards, isBarred, afterMark, markRange, obey, step}
+use Rattle.corrections.specs.Flat.{flat}
 use Rattle.run.specs.Desk.{Held, Answered}
 use Rattle.run.specs.Corrected.{SoughtAs, SeeksCard}
 use Rattle.run.specs.Resettled.{asksMark, MarkSteps}
@@ -18,9 +18,9 @@ use Rattle.run.specs.declared.desk.Desk.{Desk}
 use Rattle.run.specs.declared.desk.Stepped.{Stepped}
 use Rattle.run.specs.declared.desk.Stepped.the-variants.{Refused as SteppedOff}
 use Rattle.run.specs.declared.fixes.Sought.{Sought}
-use Rattle.run.specs.declared.Why.{Why}
-use Rattle.run.specs.declared.Why.the-variants.{Nowhere, NoCard, Backwards, Barred}
-use Rattle.run.proofs.FlatFind.{backwards-flat, ltb-yes, ltb-no}
+use Rattle.corrections.specs.declared.Why.{Why}
+use Rattle.corrections.specs.declared.Why.the-variants.{Nowhere, NoCard, Backwards, Barred}
+use Rattle.corrections.proofs.FlatFind.{backwards-flat, ltb-yes, ltb-no}
 use Rattle.run.proofs.MarkedParts.{spot-below}
 
 range-asked : (s : State) (line : List ℕ) (was : Bool) (p q : CardName) → directive line ≡ asksMark was p q → step s line ≡ inSet s (markRange s was (find (s .lib) p) (find (s .lib) q))
@@ -79,6 +79,10 @@ module _ (w dir decks flags : List ℕ) (d : Desk) (was : ℕ) (p q : CardName) 
       gone r found m n le (some a) (some b) e g h i =
           found names line s p q a b held set-on refl h i
           (ranged a b false (backwards-flat (s .lib) a b (h .stood) (i .stood) ∙ ltb-no (flat (s .lib) b) (flat (s .lib) a) (omega (arith, h .index, i .index))) e g)
+
+-- one card named twice is found where it was
+pub same-card : (w dir : List ℕ) (d : Desk) (p q : CardName) (f : Sought) → p .name ≡ q .name → p .seq ≡ q .seq → SeeksCard w dir d p f → SeeksCard w dir d q f
+same-card w dir d p q f n s first = subst (λ (r : CardName). SeeksCard w dir d r f) (λ i. record { name = n i; seq = s i }) first
 
 -- THE ANSWERS
 module _ (w dir decks flags : List ℕ) (d : Desk) (was : ℕ) (p q : CardName) (v newFlags : List ℕ) where

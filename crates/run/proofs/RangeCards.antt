@@ -10,7 +10,7 @@ use lib.ListN.{length, take, drop, length-map}
 use lib.Seq.{drop-drop}
 use Rattle.words.specs.Base.{if_then_else_, placeFrom}
 use Rattle.library.specs.Library.{Card}
-use Rattle.run.specs.Step.{isNamed, overRange, putIn}
+use Rattle.corrections.specs.Step.{isNamed, overRange, putIn}
 use Rattle.run.specs.CardSeek.{indexOf}
 use Rattle.run.specs.ByteMarks.{markOne, markAll}
 use Rattle.run.specs.Work.{upTo, beyondCard, rangeOf}

@@ -13,9 +13,9 @@ use Rattle.lines.specs.declared.CardName.{CardName}
 use Rattle.library.specs.Library.{Card, Deck, Library, deckCards, joined, parts, stream}
 use Rattle.library.specs.Yanks.{yanked}
 use Rattle.library.specs.Image.{cardsWords, shortHistory, withinLimits}
-use Rattle.run.specs.Step.{inYanks, inDeck, State, Step, went, refused, refuse, limited, isSet, unitNumber, Spot, isNamed, isYankPart, isDeckSpot, isBarred, placeAfter, overRange, afterMark, step}
-use Rattle.run.specs.Safe.{Safe}
-use Rattle.run.specs.Flat.{indexBy, ahead, Stood, flat, deckNumbers, isDeckCard}
+use Rattle.corrections.specs.Step.{inYanks, inDeck, State, Step, went, refused, refuse, limited, isSet, unitNumber, Spot, isNamed, isYankPart, isDeckSpot, isBarred, placeAfter, overRange, afterMark, step}
+use Rattle.corrections.specs.Safe.{Safe}
+use Rattle.corrections.specs.Flat.{indexBy, ahead, Stood, flat, deckNumbers, isDeckCard}
 use Rattle.run.specs.GapWords.{Ordered}
 use Rattle.run.specs.CardSeek.{indexOf}
 use Rattle.run.specs.ByteMarks.{markOne, markAll}
@@ -31,16 +31,16 @@ use Rattle.run.specs.declared.desk.TextAt.the-variants.{Gap as TextGap}
 use Rattle.run.specs.declared.desk.Stepped.{Stepped}
 use Rattle.run.specs.declared.desk.Stepped.the-variants.{Refused as SteppedOff}
 use Rattle.run.specs.declared.fixes.Sought.{Sought}
-use Rattle.run.specs.declared.Why.the-variants.{Barred, NoCard, Limit}
+use Rattle.corrections.specs.declared.Why.the-variants.{Barred, NoCard, Limit}
 use Rattle.run.proofs.Locating.{run-above}
 use Rattle.run.proofs.Working.{and-true}
 use Rattle.run.proofs.RangeCards.{range-stream, marks-count}
 use Rattle.run.proofs.OverLimits.{within-limit}
-use Rattle.run.proofs.FlatFind.{yank-part-flat, ltb-yes, ltb-no}
-use Rattle.run.proofs.FlatDecks.{barred-flat}
-use Rattle.run.proofs.FlatStream.{marks, mark-flat, cards-append}
-use Rattle.run.proofs.FlatFlags.{unit-free}
-use Rattle.run.proofs.FlatLimits.{words-under, within-small, range-cards, range-short}
+use Rattle.corrections.proofs.FlatFind.{yank-part-flat, ltb-yes, ltb-no}
+use Rattle.corrections.proofs.FlatDecks.{barred-flat}
+use Rattle.corrections.proofs.FlatStream.{marks, mark-flat, cards-append}
+use Rattle.corrections.proofs.FlatFlags.{unit-free}
+use Rattle.corrections.proofs.FlatLimits.{words-under, within-small, range-cards, range-short}
 use Rattle.run.proofs.Stepping.{work-words, Counted, limited-answer}
 use Rattle.run.proofs.Texting.{begun-pos}
 use Rattle.run.proofs.Correcting.{movedDesk}
@@ -54,7 +54,7 @@ index-named o s (c ∷ cs) = ap (λ (n : ℕ). if isNamed o s c then 0 else suc 
 -- a state is sane whatever the words are
 pub same-sane : (w v : List ℕ) (d : Desk) → Sane w d → length v ≡ length w → Sane v d
 same-sane w v d sane e =
-    record { ordered = (sane .ordered .0, omega (arith, sane .ordered .1, e)); room = e ∙ sane .room; entries = sane .entries; decks = sane .decks; cards = sane .cards; next = sane .next }
+    record { ordered = (sane .ordered .0, omega (arith, sane .ordered .1, e)); room = e ∙ sane .room; entries = sane .entries; decks = sane .decks; cards = sane .cards; next = sane .next; yanks = sane .yanks; low = sane .low }
 
 -- the card that the gap stands directly ahead of
 gap-stands : (h : Gap) (yk : ℕ → Bool) (cs1 cs2 : List Card) (i : ℕ) → length cs1 ≡ i → Stands h yk cs1 cs2 i (h .hi)
@@ -255,14 +255,15 @@ module _ (w dir decks flags : List ℕ) (d : Desk) (was : ℕ) (f q : Sought) (s
             (subst (λ (p : ℕ). TextGoes (t .lib) (length nb) TextGap (inDeck (p - 1) (b .index))) (one-part .0)
             (mark-place l (eqb was 1) (a .part) (a .index) (b .index) (length nb) part stood (omega (arith, below-length))))
 
-        after : Safe t → Held v dir names decks flags (movedDesk d k) t
+        after : Safe t → Held v dir names decks flags (movedDesk d k (j + 1)) t
         after st = record {
           below = nb;
           above = na;
           work = subst (λ (x : ℕ → Bool). Work v k x nb na) (sym same-flags) (fits .1);
           whole = sym streamed;
+          low = sym below-length;
           cards = new-cards;
-          tables = mark-tables dir names decks d (movedDesk d k) l (eqb was 1) (a .part) (a .index) (b .index) refl refl (held .tables);
+          tables = mark-tables dir names decks d (movedDesk d k (j + 1)) l (eqb was 1) (a .part) (a .index) (b .index) refl refl (held .tables);
           yanks = held .yanks ∙ sym (mark-yanks l (eqb was 1) (a .part) (a .index) (b .index));
           leads = held .leads ∙ ap₂ (λ (x : ℕ → Bool) (y : List Card). length (cardsWords x y)) (sym same-flags) (sym (mark-same-yanks l (eqb was 1) (a .part) (a .index) (b .index) part));
           settled = λ n. held .settled n ∙ ap (λ (x : ℕ → Bool). x n) (sym same-flags);
@@ -272,9 +273,9 @@ module _ (w dir decks flags : List ℕ) (d : Desk) (was : ℕ) (f q : Sought) (s
           safe = st;
         }
 
-        counted : Counted v (movedDesk d k) (t .lib)
+        counted : Counted v (movedDesk d k (j + 1)) (t .lib)
         counted =
-            let tables = mark-tables dir names decks d (movedDesk d k) l (eqb was 1) (a .part) (a .index) (b .index) refl refl (held .tables) in
+            let tables = mark-tables dir names decks d (movedDesk d k (j + 1)) l (eqb was 1) (a .part) (a .index) (b .index) refl refl (held .tables) in
             record {
               entries = tables .entries;
               decks = tables .count;
@@ -285,8 +286,8 @@ module _ (w dir decks flags : List ℕ) (d : Desk) (was : ℕ) (f q : Sought) (s
               crowded = λ lt. absurd (omega (arith, ordered .0));
             }
 
-        range-decks : Answered v dir names decks flags (fitted (movedDesk d k)) (step s line)
-        range-decks = limited-answer v dir names decks flags (movedDesk d k) t counted s line goes (held .safe) (λ _ st. after st)
+        range-decks : Answered v dir names decks flags (fitted (movedDesk d k (j + 1))) (step s line)
+        range-decks = limited-answer v dir names decks flags (movedDesk d k (j + 1)) t counted s line goes (held .safe) (λ _ st. after st)
 
       -- in YANK$$$
       module _ (yank : i < d .yanks) where
@@ -337,7 +338,7 @@ module _ (w dir decks flags : List ℕ) (d : Desk) (was : ℕ) (f q : Sought) (s
     found-missed e newFlags names line s pn qn a b held set sq sa sb obeyed =
         range-missed w dir decks flags d was f q seq sane le u h half order opens names line s pn qn a b held set sq sa sb obeyed titles v r full marked e newFlags
 
-    pub found-decks : (k : Gap) → r ≡ Done k → Ordered u k → d .yanks ≤ f .index → MarksFound w dir decks flags d was f q seq v flags (fitted (movedDesk d k))
+    pub found-decks : (k : Gap) → r ≡ Done k → Ordered u k → d .yanks ≤ f .index → MarksFound w dir decks flags d was f q seq v flags (fitted (movedDesk d k (q .index + 1)))
     found-decks k done ordered deck names line s pn qn a b held set sq sa sb obeyed =
         range-decks w dir decks flags d was f q seq sane le u h half order opens names line s pn qn a b held set sq sa sb obeyed titles v r full marked k done ordered deck
 

@@ -20,16 +20,16 @@ use Rattle.library.proofs.Acts.{sound-lower}
 use Rattle.library.proofs.Flags.{yankList, flags, yanked-rule}
 use Rattle.image.specs.Flags.{settledFlags}
 use Rattle.image.proofs.Yanking.{settled-yanked}
-use Rattle.run.specs.Step.{State}
+use Rattle.corrections.specs.Step.{State}
 use Rattle.run.specs.SettledBits.{flagged}
 use Rattle.run.specs.Work.{Work, Resettles}
 use Rattle.run.specs.Desk.{Sane, Held, HeldUnder}
 use Rattle.run.specs.Resettled.{Resettled}
 use Rattle.run.specs.declared.gap.Gap.{Gap}
 use Rattle.run.specs.declared.desk.Desk.{Desk}
-use Rattle.run.proofs.FlatFind.{bool-iff, eqb-yes}
-use Rattle.run.proofs.FlatStream.{cards-append}
-use Rattle.run.proofs.FlatLimits.{cards-size}
+use Rattle.corrections.proofs.FlatFind.{bool-iff, eqb-yes}
+use Rattle.corrections.proofs.FlatStream.{cards-append}
+use Rattle.corrections.proofs.FlatLimits.{cards-size}
 use Rattle.run.proofs.YankPutting.{deckCardsOf, stream-is}
 
 -- NO NUMBER IS 0
@@ -96,6 +96,7 @@ module _ (w dir : List ℕ) (d : Desk) (size : ℕ) (f v : List ℕ) (sane : San
     above = held .above;
     work = subst (λ (k : ℕ → Bool). Work v (d .gap) k (held .below) (held .above)) (fun-ext new) (settles yk (held .below) (held .above) (held .work));
     whole = held .whole;
+    low = held .low;
     cards = held .cards;
     tables = held .tables;
     yanks = held .yanks;

@@ -12,8 +12,8 @@ use Rattle.library.specs.Yanks.{yanked}
 use Rattle.library.specs.Check.{Checking, good, bad, check, checked}
 use Rattle.library.specs.declared.Fault.{Fault}
 use Rattle.library.specs.declared.Checked.the-variants.{Sound as CheckedSound, Refused as CheckedRefused}
-use Rattle.run.specs.Step.{start}
-use Rattle.run.specs.Run.{Steps, ended, stopped, steps, notUpdated, fitted, update, fromUpdated, fromChecked, running, ran, runInto}
+use Rattle.corrections.specs.Step.{start}
+use Rattle.corrections.specs.Run.{Steps, ended, stopped, steps, notUpdated, fitted, update, fromUpdated, fromChecked, running, ran, runInto}
 use Rattle.run.specs.Desk.{Sane}
 use Rattle.run.specs.Resettled.{Resettled, Arrays}
 use Rattle.run.specs.Streamed.{inArrays, EndedIn, ObeysStream}
@@ -21,11 +21,11 @@ use Rattle.run.specs.Written.{afterLines, Answers, Finishes, Begins, Run
 use Rattle.run.specs.Loaded.{Loads}
 use Rattle.run.specs.declared.desk.Desk.{Desk}
 use Rattle.run.specs.declared.streams.Ended.the-variants.{Ended as EndedOn, Stopped as EndedOff}
-use Rattle.run.specs.declared.Ran.{Ran}
-use Rattle.run.specs.declared.Ran.the-variants.{Library as OfLibrary, Refused}
-use Rattle.run.specs.declared.Why.{Why}
-use Rattle.run.specs.declared.Why.the-variants.{Stream}
-use Rattle.run.proofs.FlatFind.{ltb-yes, ltb-no}
+use Rattle.corrections.specs.declared.Ran.{Ran}
+use Rattle.corrections.specs.declared.Ran.the-variants.{Library as OfLibrary, Refused}
+use Rattle.corrections.specs.declared.Why.{Why}
+use Rattle.corrections.specs.declared.Why.the-variants.{Stream}
+use Rattle.corrections.proofs.FlatFind.{ltb-yes, ltb-no}
 
 pub sane-again : (w v : List ℕ) (d : Desk) → length v ≡ length w → Sane w d → Sane v d
 sane-again w v d e s =
@@ -36,6 +36,8 @@ sane-again w v d e s =
       decks = s .decks;
       cards = s .cards;
       next = s .next;
+      yanks = s .yanks;
+      low = s .low;
     }
 
 -- TAKEN UP, and settled

@@ -2,7 +2,7 @@
 use Prim.Native.Nat.{ℕ, _/_, _%_, _^_, _<_}
 use native.Mathlib.Omega.{arith}
 use native.Mathlib.Nat.{add-zero}
-use mathlib.Core.Path.{_≡_, sym, ap, _∙_}
+use mathlib.Core.Path.{_≡_, refl, sym, ap, _∙_}
 use mathlib.Core.Bool.{Bool}
 use mathlib.Core.List.{List, _++_, map, append-assoc}
 use lib.ListN.{length, drop, getD}
@@ -51,3 +51,17 @@ seen w at r o s a h n yk c rest here f =
   where
     own : (h b n : ℕ) → h % 2 ^ 18 ≡ b → b % 2 ^ 16 ≡ n → h % 65536 ≡ n
     own h b n p q = omega arith
+
+-- all that is seen at a word
+abbrev pub seenAt : List ℕ → ℕ → Seen
+seenAt w at =
+    record {
+      owner = getD w at 0 % 65536;
+      seq = getD w at 0 / 262144 % 262144;
+      active = getD w at 0 / 288230376151711744 % 2;
+      heads = headLen (drop at w);
+      count = getD w at 0 / 68719476736 % 262144;
+    }
+
+pub seen-at : (w : List ℕ) (at : ℕ) → SeesAny w at (seenAt w at)
+seen-at w at = seen w at (seenAt w at) refl refl refl refl refl

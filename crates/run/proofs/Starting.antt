@@ -16,23 +16,24 @@ use Rattle.library.specs.Yanks.{yanked}
 use Rattle.library.specs.Image.{cardsWords, shortHistory}
 use Rattle.library.specs.Sound.{Sound}
 use Rattle.library.proofs.Directories.{deck-names-append}
-use Rattle.run.specs.Step.{State, Step, went, refused, refuse, limited, isKnown, withDecks, withEntry, afterIdent, putIdent, obey, step}
-use Rattle.run.specs.Safe.{Safe}
-use Rattle.run.specs.Flat.{deckNumbers}
+use Rattle.corrections.specs.Step.{State, Step, went, refused, refuse, limited, isKnown, withDecks, withEntry, afterIdent, putIdent, obey, step}
+use Rattle.corrections.specs.Safe.{Safe}
+use Rattle.corrections.specs.Flat.{deckNumbers}
 use Rattle.run.specs.GapWords.{Ordered}
 use Rattle.run.specs.Work.{Work}
 use Rattle.run.specs.Desk.{fitted, Sane, SaneAfter, Tables, Held, Answered}
 use Rattle.run.specs.Obeyed.{StaysSane, IdentSteps}
+use Rattle.run.specs.YankNames.{unknownIn}
 use Rattle.run.specs.declared.gap.Gap.{Gap}
 use Rattle.run.specs.declared.desk.Desk.{Desk}
 use Rattle.run.specs.declared.desk.TextAt.the-variants.{Nowhere as TextNowhere}
 use Rattle.run.specs.declared.desk.Stepped.{Stepped}
 use Rattle.run.specs.declared.desk.Stepped.the-variants.{Went as SteppedOn, Refused as SteppedOff}
-use Rattle.run.specs.declared.Why.the-variants.{Known}
-use Rattle.run.proofs.FlatFind.{eqb-yes, eqb-no}
-use Rattle.run.proofs.FlatStream.{entry-flat}
-use Rattle.run.proofs.FlatFlags.{flags-entry}
-use Rattle.run.proofs.FlatLimits.{words, words-under, within-small}
+use Rattle.corrections.specs.declared.Why.the-variants.{Known}
+use Rattle.corrections.proofs.FlatFind.{eqb-yes, eqb-no}
+use Rattle.corrections.proofs.FlatStream.{entry-flat}
+use Rattle.corrections.proofs.FlatFlags.{flags-entry}
+use Rattle.corrections.proofs.FlatLimits.{words, words-under, within-small}
 use Rattle.run.proofs.Stepping.{work-words, Counted, limited-answer, fitted-sane}
 
 -- THE DIRECTORY LOOKED THROUGH, from place i on
@@ -59,34 +60,21 @@ module _ (w : ℕ) (dir : List ℕ) (n i : ℕ) (inside : n ≤ length dir) wher
       ap (entryFrom w (i + 1)) (drop-of-length-le (take n dir) k)
 
 -- 25
-pub known-reserved : (l : Library) (w : ℕ) → w ≡ reserved → isKnown l w ≡ true
-known-reserved l w e = ap (λ (b : Bool). b || not (eqb (entryOf (l .directory) w) 0)) (eqb-yes w reserved e)
-
-pub known-entry : (l : Library) (w : ℕ) → 0 < entryOf (l .directory) w → isKnown l w ≡ true
-known-entry l w pos = go (eqb w reserved) (ap not (eqb-no (entryOf (l .directory) w) 0 (λ e. omega (arith, e))))
+pub known-is : (l : Library) (directory : List ℕ) (w : ℕ) (b : Bool) → directory ≡ l .directory → unknownIn directory w ≡ b → isKnown l w ≡ not b
+known-is l directory w b e f = twice (isKnown l w) ∙ ap not (sym (ap (λ (ds : List ℕ). unknownIn ds w) e) ∙ f)
   where
-    go : (a : Bool) {b : Bool} → b ≡ true → (a || b) ≡ true
-    go true e = refl
-    go false e = e
-
-pub known-not : (l : Library) (w : ℕ) → (w ≡ reserved → ⊥) → entryOf (l .directory) w ≡ 0 → isKnown l w ≡ false
-known-not l w ne e = ap₂ (λ (a b : Bool). a || not b) (eqb-no w reserved ne) (eqb-yes (entryOf (l .directory) w) 0 e)
+    twice : (x : Bool) → x ≡ not (not x)
+    twice true = refl
+    twice false = refl
 
 ident-obeyed : (s : State) (line : List ℕ) (word : ℕ) (b : Bool) → directive line ≡ Ident word → isKnown (s .lib) word ≡ b → step s line ≡ refuse b Known (limited (afterIdent s word))
 unfolding step
 ident-obeyed s line word b asks e = ap (obey s line) asks ∙ ap (λ (x : Bool). refuse x Known (limited (afterIdent s word))) e
 
-ident-refused : (dir : List ℕ) (d : Desk) (word : ℕ) (new : List ℕ)
-    → ((w names decks flags : List ℕ) (s : State) → Held w dir names decks flags d s → isKnown (s .lib) word ≡ true) → IdentSteps dir d word new (SteppedOff Known)
-ident-refused dir d word new k w names decks flags line s sane asks held =
-    subst (λ (x : Step). Answered w new names decks flags (SteppedOff Known) x) (sym (ident-obeyed s line word true asks (k w names decks flags s held))) refl
-
-pub ident-reserved : (dir : List ℕ) (d : Desk) (word : ℕ) (new : List ℕ) → word ≡ reserved → IdentSteps dir d word new (SteppedOff Known)
-ident-reserved dir d word new e = ident-refused dir d word new (λ w names decks flags s held. known-reserved (s .lib) word e)
-
-pub ident-twice : (dir : List ℕ) (d : Desk) (word : ℕ) (new : List ℕ) → 0 < entryOf (take (d .entries) dir) word → IdentSteps dir d word new (SteppedOff Known)
-ident-twice dir d word new pos =
-    ident-refused dir d word new (λ w names decks flags s held. known-entry (s .lib) word (subst (λ (ds : List ℕ). 0 < entryOf ds word) (held .tables .directory) pos))
+pub ident-known : (dir : List ℕ) (d : Desk) (word : ℕ) (new : List ℕ) → unknownIn (take (d .entries) dir) word ≡ false → IdentSteps dir d word new (SteppedOff Known)
+ident-known dir d word new e w names decks flags line s sane asks held =
+    subst (λ (x : Step). Answered w new names decks flags (SteppedOff Known) x)
+    (sym (ident-obeyed s line word true asks (known-is (s .lib) (take (d .entries) dir) word false (held .tables .directory) e))) refl
 
 -- IDENT
 ident-names : (l : Library) (w : ℕ) → Sound l → deckNames (withEntry l w) ≡ deckNames l
@@ -95,9 +83,9 @@ ident-names l w s = ap {B = List ℕ} (λ x. reserved ∷ x) (deck-names-append 
 
 abbrev pub identDesk : Desk → Desk
 identDesk d =
-    record { gap = d .gap; entries = d .entries + 1; decks = d .decks; cards = d .cards; yanks = d .yanks; lead = d .lead; set = true; next = 1; place = TextNowhere }
+    record { gap = d .gap; low = d .low; entries = d .entries + 1; decks = d .decks; cards = d .cards; yanks = d .yanks; lead = d .lead; set = true; next = 1; place = TextNowhere }
 
-module _ (dir : List ℕ) (d : Desk) (word : ℕ) (long : length dir ≡ 1024) (few : d .entries ≤ 1023) (other : word ≡ reserved → ⊥) (unknown : entryOf (take (d .entries) dir) word ≡ 0)
+module _ (dir : List ℕ) (d : Desk) (word : ℕ) (long : length dir ≡ 1024) (few : d .entries ≤ 1023) (unknown : unknownIn (take (d .entries) dir) word ≡ true)
     (w names decks flags line : List ℕ) (s : State) (sane : Sane w d) (asks : directive line ≡ Ident word) (held : Held w dir names decks flags d s) where
   abbrev l : Library
   l = s .lib
@@ -109,7 +97,7 @@ module _ (dir : List ℕ) (d : Desk) (word : ℕ) (long : length dir ≡ 1024) (
   yk = yanked l 0
 
   stepped : step s line ≡ limited t
-  stepped = ident-obeyed s line word false asks (known-not l word other (subst (λ (ds : List ℕ). entryOf ds word ≡ 0) (held .tables .directory) unknown))
+  stepped = ident-obeyed s line word false asks (known-is l (take (d .entries) dir) word true (held .tables .directory) unknown)
 
   total : words (t .lib) ≡ d .gap .lo + (65536 - d .gap .hi)
   total =
@@ -137,6 +125,7 @@ module _ (dir : List ℕ) (d : Desk) (word : ℕ) (long : length dir ≡ 1024) (
         above = held .above;
         work = subst (λ (g : ℕ → Bool). Work w (d .gap) g (held .below) (held .above)) (sym f) (held .work);
         whole = held .whole ∙ sym (entry-flat l word);
+        low = held .low;
         cards = counted .cards;
         tables = record {
           directory = ap (λ (n : ℕ). take n (set dir (d .entries) word)) (add-one (d .entries)) ∙ take-suc-set dir (d .entries) word (omega arith) ∙ ap (λ (ds : List ℕ). ds ++ (word ∷ [])) (held .tables .directory);
@@ -160,9 +149,9 @@ module _ (dir : List ℕ) (d : Desk) (word : ℕ) (long : length dir ≡ 1024) (
   ident-answer : Answered w (set dir (d .entries) word) names decks flags (fitted (identDesk d)) (step s line)
   ident-answer = limited-answer w (set dir (d .entries) word) names decks flags (identDesk d) t counted s line stepped (held .safe) (λ le safe. after safe)
 
-pub ident-on : (dir : List ℕ) (d : Desk) (word : ℕ) → length dir ≡ 1024 → d .entries ≤ 1023 → (word ≡ reserved → ⊥) → entryOf (take (d .entries) dir) word ≡ 0
+pub ident-on : (dir : List ℕ) (d : Desk) (word : ℕ) → length dir ≡ 1024 → d .entries ≤ 1023 → unknownIn (take (d .entries) dir) word ≡ true
     → IdentSteps dir d word (set dir (d .entries) word) (fitted (identDesk d))
-ident-on dir d word long few other unknown w names decks flags line s sane asks held = ident-answer dir d word long few other unknown w names decks flags line s sane asks held
+ident-on dir d word long few unknown w names decks flags line s sane asks held = ident-answer dir d word long few unknown w names decks flags line s sane asks held
 
 pub ident-sane : (d : Desk) → StaysSane d (fitted (identDesk d))
-ident-sane d w sane = fitted-sane w (identDesk d) (sane .ordered .1) (sane .room) (omega arith)
+ident-sane d w sane = fitted-sane w (identDesk d) (sane .ordered .1) (sane .room) (omega arith) (sane .yanks) (sane .low)

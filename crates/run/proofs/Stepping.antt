@@ -19,9 +19,9 @@ use Rattle.library.specs.Yanks.{yanked}
 use Rattle.library.specs.Image.{cardsWords, shortHistory, withinLimits}
 use Rattle.library.specs.Sound.{Sound}
 use Rattle.library.proofs.Each.{allOf-each}
-use Rattle.run.specs.Step.{TextPlace, nowhere, inYanks, inDeck, State, Step, went, refused, limited, newCard, putIn, changeAt, afterText, putText, obey, step, unitNumber, withDecks}
-use Rattle.run.specs.Safe.{Begun, Open, Safe}
-use Rattle.run.specs.Flat.{HasPlace, flatPlace, deckNumbers}
+use Rattle.corrections.specs.Step.{TextPlace, nowhere, inYanks, inDeck, State, Step, went, refused, limited, newCard, putIn, changeAt, afterText, putText, obey, step, unitNumber, withDecks}
+use Rattle.corrections.specs.Safe.{Begun, Open, Safe}
+use Rattle.corrections.specs.Flat.{HasPlace, flatPlace, deckNumbers}
 use Rattle.run.specs.GapWords.{Parted, Ordered}
 use Rattle.run.specs.CardHeads.{Fits, cardOf}
 use Rattle.run.specs.Work.{Work, PutCard}
@@ -32,14 +32,14 @@ use Rattle.run.specs.declared.desk.TextAt.{TextAt}
 use Rattle.run.specs.declared.desk.TextAt.the-variants.{Nowhere as TextNowhere, Yanks as TextYanks, Gap as TextGap}
 use Rattle.run.specs.declared.desk.Stepped.{Stepped}
 use Rattle.run.specs.declared.desk.Stepped.the-variants.{Went as SteppedOn, Refused as SteppedOff}
-use Rattle.run.specs.declared.Why.{Why}
-use Rattle.run.specs.declared.Why.the-variants.{Limit, Nowhere, Barred}
-use Rattle.run.proofs.Went.{Went}
-use Rattle.run.proofs.StepSound.{step-safe}
-use Rattle.run.proofs.FlatFind.{bool-iff}
-use Rattle.run.proofs.FlatStream.{cards-append, text-flat}
-use Rattle.run.proofs.FlatFlags.{flags-decks, unit-free}
-use Rattle.run.proofs.FlatLimits.{words, words-under, Small, within-small, small-within, not-small, put-cards, put-short}
+use Rattle.corrections.specs.declared.Why.{Why}
+use Rattle.corrections.specs.declared.Why.the-variants.{Limit, Nowhere, Barred}
+use Rattle.corrections.proofs.Went.{Went}
+use Rattle.corrections.proofs.StepSound.{step-safe}
+use Rattle.corrections.proofs.FlatFind.{bool-iff}
+use Rattle.corrections.proofs.FlatStream.{cards-append, text-flat}
+use Rattle.corrections.proofs.FlatFlags.{flags-decks, unit-free}
+use Rattle.corrections.proofs.FlatLimits.{words, words-under, Small, within-small, small-within, not-small, put-cards, put-short}
 
 -- 31 BY COUNTS
 pub record Fitting (d : Desk) : Type 0 where
@@ -80,13 +80,13 @@ fitted-yes d f = ap (λ (b : Bool). if b then SteppedOn d else SteppedOff Limit)
 pub fitted-no : (d : Desk) → (Fitting d → ⊥) → fitted d ≡ SteppedOff Limit
 fitted-no d f = ap (λ (b : Bool). if b then SteppedOn d else SteppedOff Limit) (bool-iff (allOf (fitTests d)) false (λ t. absurd (f (fits-of d t))) (λ t. absurd t))
 
-pub fitted-sane : (w : List ℕ) (d : Desk) → d .gap .hi ≤ length w → length w ≡ 65536 → d .next ≤ d .cards + 1 → SaneAfter w (fitted d)
-fitted-sane w d hi room next = go (allOf (fitTests d)) (fits-of d)
+pub fitted-sane : (w : List ℕ) (d : Desk) → d .gap .hi ≤ length w → length w ≡ 65536 → d .next ≤ d .cards + 1 → d .yanks ≤ d .cards → d .low ≤ d .cards → SaneAfter w (fitted d)
+fitted-sane w d hi room next yanks low = go (allOf (fitTests d)) (fits-of d)
   where
     go : (b : Bool) → (T b → Fitting d) → SaneAfter w (if b then SteppedOn d else SteppedOff Limit)
     go true f =
         let h : Fitting d = f tt in
-        record { ordered = (h .ordered, hi); room = room; entries = h .entries; decks = h .decks; cards = h .cards; next = next }
+        record { ordered = (h .ordered, hi); room = room; entries = h .entries; decks = h .decks; cards = h .cards; next = next; yanks = yanks; low = low }
     go false f = tt
 
 -- THE WORDS AT WORK
@@ -149,11 +149,11 @@ module _ (w dir names decks flags : List ℕ) (d : Desk) (t : State) (c : Counte
       go : (b : Bool) → withinLimits (t .lib) ≡ b → Answered w dir names decks flags (fitted d) (limited t)
       go true q =
           let f : Fitting d = small-fitting (within-small (t .lib) (subst (λ (x : Bool). T x) (sym q) tt)) in
-          let g : limited t ≡ went t = ap (λ (x : Bool). Rattle.run.specs.Step.refuse (not x) Limit (went t)) q in
+          let g : limited t ≡ went t = ap (λ (x : Bool). Rattle.corrections.specs.Step.refuse (not x) Limit (went t)) q in
           subst (λ (x : Stepped). Answered w dir names decks flags x (limited t)) (sym (fitted-yes d f))
           (subst (λ (x : Step). Answered w dir names decks flags (SteppedOn d) x) (sym g) (held (f .ordered) (kept g)))
       go false q =
           let off : Fitting d → ⊥ = λ f. let z : _≡_ {A = Bool} true false = sym (small-within (t .lib) (fitting-small f)) ∙ q in subst (λ (x : Bool). T x) z tt in
-          let g : limited t ≡ refused Limit = ap (λ (x : Bool). Rattle.run.specs.Step.refuse (not x) Limit (went t)) q in
+          let g : limited t ≡ refused Limit = ap (λ (x : Bool). Rattle.corrections.specs.Step.refuse (not x) Limit (went t)) q in
           subst (λ (x : Stepped). Answered w dir names decks flags x (limited t)) (sym (fitted-no d off))
           (subst (λ (x : Step). Answered w dir names decks flags (SteppedOff Limit) x) (sym g) refl)

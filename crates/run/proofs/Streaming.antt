@@ -6,15 +6,15 @@ use mathlib.Core.List.{List, _∷_}
 use lib.ListN.{length, drop}
 use Rattle.lines.specs.Directive.{lineOf, lines}
 use Rattle.lines.proofs.Streams.{lines-none, lines-more, after-line}
-use Rattle.run.specs.Step.{State, Step, went, refused, step}
-use Rattle.run.specs.Run.{Steps, ended, stopped, onward, steps}
+use Rattle.corrections.specs.Step.{State, Step, went, refused, step}
+use Rattle.corrections.specs.Run.{Steps, ended, stopped, onward, steps}
 use Rattle.run.specs.Desk.{Sane}
 use Rattle.run.specs.Resettled.{Arrays, HeldIn, AnsweredIn, ObeysLine}
 use Rattle.run.specs.Streamed.{EndedIn, ObeysStream}
 use Rattle.run.specs.declared.desk.Desk.{Desk}
 use Rattle.run.specs.declared.desk.Stepped.the-variants.{Went as SteppedOn, Refused as SteppedOff}
 use Rattle.run.specs.declared.streams.Ended.the-variants.{Ended as EndedOn, Stopped as EndedOff}
-use Rattle.run.specs.declared.Why.{Why}
+use Rattle.corrections.specs.declared.Why.{Why}
 
 -- the line at `at` is the n-th
 pub record Reached (bytes : List ℕ) (b : Arrays) (e : Desk) (n at : ℕ) (s : State) : Type 0 where

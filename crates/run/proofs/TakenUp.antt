@@ -4,7 +4,7 @@ use native.Mathlib.Omega.{arith}
 use mathlib.Core.Path.{_≡_, refl, sym, ap, ap₂, _∙_}
 use mathlib.Core.Bool.{Bool, false}
 use mathlib.Core.List.{List, [], _++_, map, append-nil}
-use lib.ListN.{length, take, drop, getD, length-drop, drop-of-length-le}
+use lib.ListN.{length, take, drop, getD, length-append, length-drop, drop-of-length-le}
 use lib.Seq.{paste, take-at, take-append-seam}
 use Rattle.words.specs.Base.{member}
 use Rattle.library.specs.Each.{Each}
@@ -13,17 +13,17 @@ use Rattle.library.specs.Yanks.{yanked}
 use Rattle.library.specs.Image.{cardsWords}
 use Rattle.library.specs.Check.{good, check}
 use Rattle.library.specs.Sound.{Sound}
-use Rattle.run.specs.Step.{start}
+use Rattle.corrections.specs.Step.{start}
 use Rattle.run.specs.CardHeads.{Fits}
 use Rattle.run.specs.CardSeek.{CardRun, Finds}
-use Rattle.run.specs.Flat.{indexBy, deckNumbers}
+use Rattle.corrections.specs.Flat.{indexBy, deckNumbers}
 use Rattle.run.specs.SettledBits.{flagged}
 use Rattle.run.specs.Desk.{Sane, Tables, HeldUnder}
 use Rattle.run.specs.Loaded.{titledCard, FindsTitle, FlagsDecks, Readable, Loads}
 use Rattle.run.specs.declared.desk.Desk.{Desk}
 use Rattle.run.specs.declared.desk.TextAt.the-variants.{Nowhere as TextNowhere}
 use Rattle.run.specs.declared.seek.Place.{Place}
-use Rattle.run.proofs.FlatLimits.{Small}
+use Rattle.corrections.proofs.FlatLimits.{Small}
 use Rattle.run.proofs.Handing.{stream-fits}
 use Rattle.run.proofs.Loading.{loaded-sound, loaded-small, entries-are, decks-are, image-long, directory-is, names-are, cards-are, taken, begun, none-of-zero, listed-numbers, titles-end}
 
@@ -41,6 +41,7 @@ module _ (old : List ℕ) where
   loadDesk t c =
       record {
         gap = record { lo = low; hi = 65536 };
+        low = c .index;
         entries = N;
         decks = K - 1;
         cards = c .index;
@@ -97,6 +98,15 @@ module _ (old : List ℕ) where
       ahead-of : indexBy (titledCard decks) (stream l) ≡ length (l .yanks)
       ahead-of = titles-end l sound decks marked
 
+      yanks-count : t .index ≡ length (l .yanks)
+      yanks-count = ft yk (stream l) (drop low w₀) run-of .index ∙ ahead-of
+
+      few-yanks : t .index ≤ c .index
+      unfolding stream
+      few-yanks =
+          let n : length (stream l) ≡ length (l .yanks) + length (joined (map deckCards (l .decks))) = length-append (l .yanks) (joined (map deckCards (l .decks))) in
+          omega (arith, yanks-count, counted)
+
       yanks-are : take (length (l .yanks)) (stream l) ≡ l .yanks
       unfolding stream
       yanks-are = take-append-seam (l .yanks) (joined (map deckCards (l .decks)))
@@ -133,9 +143,10 @@ module _ (old : List ℕ) where
               fit2 = tt;
             };
             whole = append-nil (stream l);
+            low = counted;
             cards = counted;
             tables = tables-of;
-            yanks = ft yk (stream l) (drop low w₀) run-of .index ∙ ahead-of;
+            yanks = yanks-count;
             leads = lead-is;
             set = refl;
             next = refl;
@@ -157,4 +168,6 @@ module _ (old : List ℕ) where
           decks = omega (arith, r .decks);
           cards = omega (arith, e, s .cards);
           next = omega arith;
+          yanks = few-yanks (r .lib) (r .accepted);
+          low = omega arith;
         }

@@ -22,9 +22,9 @@ use Rattle.library.specs.Yanks.{yanked}
 use Rattle.library.specs.Image.{cardsWords, shortHistory}
 use Rattle.library.specs.Sound.{isNamed, Sound}
 use Rattle.library.proofs.EntryNames.{is-named}
-use Rattle.run.specs.Step.{TextPlace, nowhere, inYanks, inDeck, State, Step, went, refused, limited, newCard, putIn, changeAt, afterText, putText, obey, step, unitNumber, withDecks}
-use Rattle.run.specs.Safe.{Begun, Open, Safe}
-use Rattle.run.specs.Flat.{ahead, HasPlace, flatPlace, deckNumbers}
+use Rattle.corrections.specs.Step.{TextPlace, nowhere, inYanks, inDeck, State, Step, went, refused, limited, newCard, putIn, changeAt, afterText, putText, obey, step, unitNumber, withDecks}
+use Rattle.corrections.specs.Safe.{Begun, Open, Safe}
+use Rattle.corrections.specs.Flat.{ahead, HasPlace, flatPlace, deckNumbers}
 use Rattle.run.specs.GapWords.{Ordered}
 use Rattle.run.specs.CardHeads.{cardOf}
 use Rattle.run.specs.Work.{Work, PutCard, PutsCard}
@@ -36,12 +36,12 @@ use Rattle.run.specs.declared.desk.TextAt.{TextAt}
 use Rattle.run.specs.declared.desk.TextAt.the-variants.{Nowhere as TextNowhere, Yanks as TextYanks, Gap as TextGap}
 use Rattle.run.specs.declared.desk.Stepped.{Stepped}
 use Rattle.run.specs.declared.desk.Stepped.the-variants.{Went as SteppedOn, Refused as SteppedOff}
-use Rattle.run.specs.declared.Why.the-variants.{Nowhere, Barred}
-use Rattle.run.proofs.SameDecks.{length-change}
-use Rattle.run.proofs.Parts.{numbers-change}
-use Rattle.run.proofs.FlatStream.{text-flat}
-use Rattle.run.proofs.FlatFlags.{flags-decks, unit-free}
-use Rattle.run.proofs.FlatLimits.{words, words-under, within-small, put-cards, put-short}
+use Rattle.corrections.specs.declared.Why.the-variants.{Nowhere, Barred}
+use Rattle.corrections.proofs.SameDecks.{length-change}
+use Rattle.corrections.proofs.Parts.{numbers-change}
+use Rattle.corrections.proofs.FlatStream.{text-flat}
+use Rattle.corrections.proofs.FlatFlags.{flags-decks, unit-free}
+use Rattle.corrections.proofs.FlatLimits.{words, words-under, within-small, put-cards, put-short}
 use Rattle.run.proofs.Stepping.{work-words, Counted, limited-answer}
 
 -- A LINE'S WORDS
@@ -143,7 +143,7 @@ module _ (w : List ℕ) (d : Desk) (line v dir names decks flags : List ℕ) (s 
 -- the state after it
 abbrev pub textDesk : Desk → Gap → Desk
 textDesk d h =
-    record { gap = h; entries = d .entries; decks = d .decks; cards = d .cards + 1; yanks = d .yanks; lead = d .lead; set = d .set; next = d .next + 1; place = TextGap }
+    record { gap = h; low = d .low + 1; entries = d .entries; decks = d .decks; cards = d .cards + 1; yanks = d .yanks; lead = d .lead; set = d .set; next = d .next + 1; place = TextGap }
 
 module _ (w : List ℕ) (d : Desk) (line v : List ℕ) (h : Gap) (room : length w ≡ 65536) (same : length v ≡ 65536) (high : h .hi ≤ length w) (puts : PutsLine w (d .gap) line (d .next) (d .entries) v h)
     (dir names decks flags : List ℕ) (s : State) (asks : directive line ≡ Text) (held : Held w dir names decks flags d s)
@@ -192,7 +192,7 @@ module _ (w : List ℕ) (d : Desk) (line v : List ℕ) (h : Gap) (room : length 
     fits = λ le. total ∙ work-words v h yk (held .below ++ (c ∷ [])) (held .above) (putted .work le) (le, omega (arith, high, same, room)) ∙ ap (λ (n : ℕ). h .lo + (n - h .hi)) same;
     crowded = λ lt.
         let x = putted .crowded lt in
-        let e : length (cardsWords yk ((held .below ++ (c ∷ [])) ++ held .above)) ≡ length (cardsWords yk (held .below ++ (c ∷ [])) ++ cardsWords yk (held .above)) = ap length (Rattle.run.proofs.FlatStream.cards-append yk (held .below ++ (c ∷ [])) (held .above)) in
+        let e : length (cardsWords yk ((held .below ++ (c ∷ [])) ++ held .above)) ≡ length (cardsWords yk (held .below ++ (c ∷ [])) ++ cardsWords yk (held .above)) = ap length (Rattle.corrections.proofs.FlatStream.cards-append yk (held .below ++ (c ∷ [])) (held .above)) in
         omega (arith, x, total, room, length-append (cardsWords yk (held .below ++ (c ∷ []))) (cardsWords yk (held .above)));
   }
 
@@ -202,6 +202,7 @@ module _ (w : List ℕ) (d : Desk) (line v : List ℕ) (h : Gap) (room : length 
     above = held .above;
     work = subst (λ (f : ℕ → ℕ → Bool). Work v h (f 0) (held .below ++ (c ∷ [])) (held .above)) (sym (flags-decks l (changeAt (putIn i c) k (l .decks)))) (putted .work le);
     whole = sym streamed;
+    low = omega (arith, held .low, length-append (held .below) (c ∷ []));
     cards = counted .cards;
     tables = tables-change dir names decks d (textDesk d h) l (putIn i c) k refl refl (held .tables);
     yanks = held .yanks;

@@ -1,23 +1,24 @@
 -- Cards stand one after another, each as long as its heads and its text, so a walk goes from card to card and misses none.
-use Prim.Native.Nat.{ℕ, suc, _+_, _≤_, _<_}
+use Prim.Native.Nat.{ℕ, zero, suc, _+_, _/_, _%_, _^_, _≤_, _<_}
 use native.Mathlib.Omega.{arith}
 use native.Mathlib.Nat.{add-zero, zero-add}
-use mathlib.Core.Path.{_≡_, refl, sym, ap, _∙_}
+use mathlib.Core.Path.{_≡_, refl, sym, ap, ap₂, _∙_, subst}
 use mathlib.Core.Bool.{Bool, true, false, _&&_}
 use mathlib.Core.List.{List, [], _∷_, _++_, append-assoc, append-nil}
-use lib.Dec.{eqb}
-use lib.ListN.{length, take, drop, length-append}
+use lib.Dec.{T, eqb}
+use lib.ListN.{length, take, drop, getD, length-append}
 use lib.Seq.{drop-drop, drop-at, take-at}
 use borrow.Author.Tests.{eq-eqb, eqb-true}
 use Rattle.words.specs.Base.{if_then_else_}
 use Rattle.library.specs.Each.{Each}
 use Rattle.library.specs.Library.{Card}
 use Rattle.library.specs.Image.{cardWords, cardsWords}
-use Rattle.run.specs.CardHeads.{textOf, headsOf, headsLen, Fits, SeesAny}
-use Rattle.run.specs.CardSeek.{indexOf, CardRun, Found}
+use Rattle.run.specs.CardHeads.{textOf, headsOf, headsLen, Fits, beyond, SeesAny}
+use Rattle.run.specs.CardSeek.{indexOf, namedAt, CardRun, Found, Finds}
 use Rattle.run.specs.declared.card.Seen.{Seen}
 use Rattle.run.specs.declared.seek.Place.{Place}
 use Rattle.run.proofs.Heads.{heads-len}
+use Rattle.run.proofs.Seeing.{seenAt, seen-at}
 
 pub card-len : (yk : ℕ → Bool) (c : Card) → length (cardWords yk c) ≡ headsLen c + length (textOf c)
 unfolding cardWords headsOf
@@ -119,6 +120,11 @@ index-later o s c more differ = go (eqb (c .owner) o) (eqb (c .seq) s) refl refl
     go true false p q = refl
     go false y p q = refl
 
+take-past : (a b : List Card) (n k : ℕ) → k ≡ length a + n → take k (a ++ b) ≡ a ++ take n b
+take-past [] b n k e = ap (λ (m : ℕ). take m b) (e ∙ zero-add n)
+take-past (c ∷ a) b n zero e = absurd (omega arith)
+take-past (c ∷ a) b n (suc k) e = ap {B = List Card} (λ r. c ∷ r) (take-past a b n k (omega arith))
+
 pub record Looking (w : List ℕ) (from to o s at i : ℕ) (yk : ℕ → Bool) (cs : List Card) (rest : List ℕ) : Type 0 where
   pub stand : Stand w from to at i yk cs rest
   pub same : indexOf o s cs ≡ i + indexOf o s (stand .ahead)
@@ -180,3 +186,42 @@ module _ {w : List ℕ} {from to o s : ℕ} where
         let none : length (cardsWords yk (k .stand .ahead)) ≡ 0 = ap (λ (l : List Card). length (cardsWords yk l)) e in
         let same : at ≡ to = omega arith in
         found-by k (ap (indexOf o s) e) z (a ∙ sym same) n
+
+    -- the first word tells
+    pub look-here : at < to → namedAt w at o s ≡ true → (z : Place) → z .at ≡ at → z .index ≡ i → Finds w from to o s z
+    look-here h e =
+        let x : ℕ = getD w at 0 in
+        let p = go (eqb (x / 2 ^ 18 % 2 ^ 18) s) (eqb (x % 2 ^ 16) o) refl refl e in
+        look-found (seenAt w at) (seen-at w at) h (p .1) (p .0)
+      where
+        go : (a b : Bool) → eqb (getD w at 0 / 2 ^ 18 % 2 ^ 18) s ≡ a → eqb (getD w at 0 % 2 ^ 16) o ≡ b → (a && b) ≡ true
+            → (getD w at 0 / 2 ^ 18 % 2 ^ 18 ≡ s) × (getD w at 0 % 2 ^ 16 ≡ o)
+        go true true p q f = (eqb-true (getD w at 0 / 2 ^ 18 % 2 ^ 18) s p, eqb-true (getD w at 0 % 2 ^ 16) o q)
+        go true false p q f = let z : _≡_ {A = ℕ} 0 1 = cc in absurd (omega arith)
+        go false b p q f = let z : _≡_ {A = ℕ} 0 1 = cc in absurd (omega arith)
+
+    pub look-next : at < to → namedAt w at o s ≡ false → (n : ℕ) → n ≡ beyond w at → Looks w from to o s n (i + 1)
+    look-next h e n q =
+        subst (λ (m : ℕ). Looks w from to o s m (i + 1)) (sym q)
+        (look-on (seenAt w at) (seen-at w at) h (λ own num. go (eq-eqb (getD w at 0 / 2 ^ 18 % 2 ^ 18) s num) (eq-eqb (getD w at 0 % 2 ^ 16) o own) e))
+      where
+        go : {a b : Bool} → a ≡ true → b ≡ true → (a && b) ≡ false → ⊥
+        go {a} {b} p q f = let z : _≡_ {A = Bool} true false = sym (ap₂ (λ (x y : Bool). x && y) p q) ∙ f in subst (λ (x : Bool). T x) z tt
+
+    -- the walk goes on from here
+    pub look-find : (r : Place) → Finds w at to o s r → (z : Place) → z .at ≡ r .at → z .index ≡ i + r .index → Finds w from to o s z
+    look-find r f z za zi yk cs rest run =
+        let k = l yk cs rest run in
+        let t = k .stand in
+        let n : ℕ = indexOf o s (t .ahead) in
+        let v = f yk (t .ahead) rest (record { words = t .here; end = t .left; fit = t .fit }) in
+        let x : r .index ≡ n = v .index in
+        let y : r .at ≡ at + length (cardsWords yk (take n (t .ahead))) = v .at in
+        let m : indexOf o s cs ≡ i + n = k .same in
+        let p : from + length (cardsWords yk (t .past)) ≡ at = t .reached in
+        let c : length (cardsWords yk (take (indexOf o s cs) cs)) ≡ length (cardsWords yk (t .past) ++ cardsWords yk (take n (t .ahead))) =
+        ap (λ (cards : List Card). length (cardsWords yk cards)) (ap (take (indexOf o s cs)) (t .is) ∙ take-past (t .past) (t .ahead) n (indexOf o s cs) (m ∙ ap (λ (u : ℕ). u + n) (sym (t .long))))
+        ∙ ap length (cards-append yk (t .past) (take n (t .ahead))) in
+        let d : length (cardsWords yk (t .past) ++ cardsWords yk (take n (t .ahead))) ≡ length (cardsWords yk (t .past)) + length (cardsWords yk (take n (t .ahead))) =
+        length-append (cardsWords yk (t .past)) (cardsWords yk (take n (t .ahead))) in
+        record { index = omega arith; at = omega arith }

@@ -12,14 +12,14 @@ use Rattle.words.proofs.Tests.{T-true}
 use Rattle.library.specs.Library.{Library, stream, deckNames}
 use Rattle.library.specs.Yanks.{yanked}
 use Rattle.library.specs.Image.{cardsWords, header, counts, tables, encode}
-use Rattle.run.specs.Step.{State}
-use Rattle.run.specs.Run.{ended, updated, notUpdated, fromUpdated, ran, runInto}
+use Rattle.corrections.specs.Step.{State}
+use Rattle.corrections.specs.Run.{ended, updated, notUpdated, fromUpdated, ran, runInto}
 use Rattle.run.specs.Desk.{Sane, Held}
 use Rattle.run.specs.Written.{imageWords, afterLines, Finishes}
 use Rattle.run.specs.declared.desk.Desk.{Desk}
-use Rattle.run.specs.declared.Ran.the-variants.{Done, Refused}
-use Rattle.run.specs.declared.Why.the-variants.{Space}
-use Rattle.run.proofs.FlatStream.{cards-append, encode-flat}
+use Rattle.corrections.specs.declared.Ran.the-variants.{Done, Refused}
+use Rattle.corrections.specs.declared.Why.the-variants.{Space}
+use Rattle.corrections.proofs.FlatStream.{cards-append, encode-flat}
 
 -- WORDS WRITTEN ONE AFTER ANOTHER
 pub head-two : (e : List ℕ) (h x : ℕ) → 1 < length e → set (set e 0 h) 1 x ≡ h ∷ x ∷ drop 2 e

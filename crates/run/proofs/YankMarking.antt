@@ -5,12 +5,12 @@ use mathlib.Core.Path.{_≡_, sym, ap, _∙_, subst}
 use mathlib.Core.Bool.{Bool, true, false}
 use mathlib.Core.List.{List, _++_, map}
 use lib.ListN.{length, take, drop, length-append, take-append-drop}
-use lib.Seq.{take-append-seam}
+use lib.Seq.{take-append-seam, length-take-le}
 use Rattle.words.specs.Base.{if_then_else_, allOf}
 use Rattle.library.specs.Library.{Card, deckCards, joined, stream}
 use Rattle.library.specs.Image.{cardsWords}
-use Rattle.run.specs.Step.{TextPlace, State, limited, step}
-use Rattle.run.specs.Safe.{Safe}
+use Rattle.corrections.specs.Step.{TextPlace, State, limited, step}
+use Rattle.corrections.specs.Safe.{Safe}
 use Rattle.run.specs.GapWords.{Ordered}
 use Rattle.run.specs.Work.{Work, OpensAt}
 use Rattle.run.specs.Desk.{fitTests, fitted, Sane, SaneAfter, TextGoes, HeldUnder, Answered}
@@ -21,16 +21,16 @@ use Rattle.run.specs.declared.desk.Desk.{Desk}
 use Rattle.run.specs.declared.desk.TextAt.the-variants.{Yanks as TextYanks}
 use Rattle.run.specs.declared.desk.Stepped.{Stepped}
 use Rattle.run.specs.declared.desk.Stepped.the-variants.{Went as SteppedOn, Refused as SteppedOff}
-use Rattle.run.specs.declared.Why.{Why}
-use Rattle.run.specs.declared.Why.the-variants.{Limit}
+use Rattle.corrections.specs.declared.Why.{Why}
+use Rattle.corrections.specs.declared.Why.the-variants.{Limit}
 use Rattle.run.proofs.Locating.{lo-is}
-use Rattle.run.proofs.FlatLimits.{words, words-under, Small, within-small}
+use Rattle.corrections.proofs.FlatLimits.{words, words-under, Small, within-small}
 use Rattle.run.proofs.Stepping.{Fitting, fitted-yes, fitted-sane, work-words, Counted, limited-answer}
 
 -- the state after it
 abbrev pub yankDesk : Desk → Gap → Desk
 yankDesk d m =
-    record { gap = m; entries = d .entries; decks = d .decks; cards = d .cards; yanks = d .yanks; lead = m .lo; set = d .set; next = d .next; place = TextYanks }
+    record { gap = m; low = d .yanks; entries = d .entries; decks = d .decks; cards = d .cards; yanks = d .yanks; lead = m .lo; set = d .set; next = d .next; place = TextYanks }
 
 -- what is within the limits is answered as it is
 fitted-same : (d e : Desk) → fitted d ≡ SteppedOn e → d ≡ e
@@ -45,7 +45,7 @@ yank-lead d m e q = subst (λ (x : Desk). x .lead ≤ x .gap .lo) (fitted-same (
 
 pub yank-sane : (w v : List ℕ) (d : Desk) (m : Gap) (e : Desk) → Sane w d → length v ≡ length w → Ordered w m → fitted (yankDesk d m) ≡ SteppedOn e → Sane v e
 yank-sane w v d m e sane same o q =
-    subst (SaneAfter v) q (fitted-sane v (yankDesk d m) (omega (arith, o .1, same)) (same ∙ sane .room) (sane .next))
+    subst (SaneAfter v) q (fitted-sane v (yankDesk d m) (omega (arith, o .1, same)) (same ∙ sane .room) (sane .next) (sane .yanks) (sane .yanks))
 
 module _ (w dir : List ℕ) (d : Desk) (h : Gap) (room : length w ≡ 65536) (n : ℕ) (lead : LeadAfter (length w) d h n) (v : List ℕ) (m : Gap)
     (opens : OpensAt w h n v m) (same : length v ≡ length w) (order : Ordered w m)
@@ -82,6 +82,7 @@ module _ (w dir : List ℕ) (d : Desk) (h : Gap) (room : length w ≡ 65536) (n 
     above = drop (length ys) cs;
     work = work;
     whole = whole;
+    low = r .yanks ∙ sym (length-take-le (length ys) cs within);
     cards = r .cards;
     tables = record { directory = r .tables .directory; entries = r .tables .entries; listed = r .tables .listed; count = r .tables .count; marked = r .tables .marked };
     yanks = r .yanks;

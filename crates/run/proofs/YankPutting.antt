@@ -16,8 +16,8 @@ use Rattle.lines.proofs.Asked.{Readable, line-readable}
 use Rattle.library.specs.Library.{Card, Library, deckCards, joined, stream, deckNames}
 use Rattle.library.specs.Yanks.{yanked}
 use Rattle.library.specs.Image.{cardsWords, shortHistory}
-use Rattle.run.specs.Step.{State, limited, newCard, withYanks, afterYank, step}
-use Rattle.run.specs.Safe.{Begun, Safe}
+use Rattle.corrections.specs.Step.{State, limited, newCard, withYanks, afterYank, step}
+use Rattle.corrections.specs.Safe.{Begun, Safe}
 use Rattle.run.specs.CardHeads.{cardOf}
 use Rattle.run.specs.Work.{Work, OpensAt, PutCard}
 use Rattle.run.specs.Desk.{fitTests, fitted, Sane, Tables, Held, HeldUnder, Answered}
@@ -28,16 +28,16 @@ use Rattle.run.specs.declared.desk.Desk.{Desk}
 use Rattle.run.specs.declared.desk.TextAt.the-variants.{Nowhere as TextNowhere}
 use Rattle.run.specs.declared.desk.Stepped.{Stepped}
 use Rattle.run.specs.declared.desk.Stepped.the-variants.{Went as SteppedOn, Refused as SteppedOff}
-use Rattle.run.specs.declared.Why.the-variants.{Limit}
-use Rattle.run.proofs.FlatStream.{cards-append, yank-flat}
-use Rattle.run.proofs.FlatFlags.{unit-free}
-use Rattle.run.proofs.FlatLimits.{words, words-under, Small, within-small, put-short}
+use Rattle.corrections.specs.declared.Why.the-variants.{Limit}
+use Rattle.corrections.proofs.FlatStream.{cards-append, yank-flat}
+use Rattle.corrections.proofs.FlatFlags.{unit-free}
+use Rattle.corrections.proofs.FlatLimits.{words, words-under, Small, within-small, put-short}
 use Rattle.run.proofs.Stepping.{work-words, fitted-yes, Counted, limited-answer}
 use Rattle.run.proofs.Texting.{begun-pos}
 
 abbrev pub yankDesk : Desk → Gap → Desk
 yankDesk d h =
-    record { gap = h; entries = d .entries; decks = d .decks; cards = d .cards + 1; yanks = d .yanks + 1; lead = h .lo; set = d .set; next = d .next + 1; place = TextNowhere }
+    record { gap = h; low = d .yanks + 1; entries = d .entries; decks = d .decks; cards = d .cards + 1; yanks = d .yanks + 1; lead = h .lo; set = d .set; next = d .next + 1; place = TextNowhere }
 
 pub lead-after : (d : Desk) (h : Gap) → LeadAfter (fitted (yankDesk d h))
 lead-after d h = go (allOf (fitTests (yankDesk d h)))
@@ -65,7 +65,7 @@ yank-tables dir names decks d e l ys p q t = record {
   marked = t .marked;
 }
 
--- WHAT NO LIBRARY IN WORK HAS: more words of YANK$$$ than the array, more cards of it than all
+-- WHAT NO LIBRARY IN WORK HAS: more words of YANK$$$ than the array
 module _ (w : List ℕ) (d : Desk) (line v : List ℕ) (sane : Sane w d) where
   pub lead-over : length w < d .lead → PutsYank w d line v (SteppedOff Limit)
   lead-over over dir names decks flags u newFlags s asks held set goes same settling =
@@ -75,12 +75,6 @@ module _ (w : List ℕ) (d : Desk) (line v : List ℕ) (sane : Sane w d) where
       let b : length (cardsWords yk (held .below ++ held .above)) ≡ length (cardsWords yk (l .yanks) ++ cardsWords yk (deckCardsOf l)) =
       ap (λ (cs : List Card). length (cardsWords yk cs)) (held .whole ∙ stream-is l) ∙ ap length (cards-append yk (l .yanks) (deckCardsOf l)) in
       absurd (omega (arith, over, held .leads, length-append (cardsWords yk (l .yanks)) (cardsWords yk (deckCardsOf l)), sane .ordered .0, sane .ordered .1))
-
-  pub yanks-over : d .cards < d .yanks → PutsYank w d line v (SteppedOff Limit)
-  yanks-over over dir names decks flags u newFlags s asks held set goes same settling =
-      let l : Library = s .lib in
-      let a : length (stream l) ≡ length (l .yanks ++ deckCardsOf l) = ap length (stream-is l) in
-      absurd (omega (arith, over, held .cards, held .yanks, length-append (l .yanks) (deckCardsOf l)))
 
 -- THE CARD
 module _ (w : List ℕ) (d : Desk) (line mid : List ℕ) (g : Gap) (v : List ℕ) (h : Gap) (sane : Sane w d) (opens : OpensAt w (d .gap) (d .lead) mid g)
@@ -163,6 +157,7 @@ module _ (w : List ℕ) (d : Desk) (line mid : List ℕ) (g : Gap) (v : List ℕ
         above = rest;
         work = putted .work le;
         whole = sym streamed;
+        low = let e : d .yanks ≡ length (l .yanks) = held .yanks in omega (arith, length-append (l .yanks) (c ∷ []));
         cards = counted .cards;
         tables = yank-tables dir names decks d (yankDesk d h) l x refl refl (held .tables);
         yanks = let e : d .yanks ≡ length (l .yanks) = held .yanks in omega (arith, length-append (l .yanks) (c ∷ []));

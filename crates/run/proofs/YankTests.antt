@@ -12,16 +12,16 @@ use Rattle.lines.specs.declared.Line.the-variants.{Yank as YankLine}
 use Rattle.lines.specs.declared.NameStep.the-variants.{Name, End}
 use Rattle.lines.proofs.Walking.{namesFrom, names-more, names-none, yank-names}
 use Rattle.library.specs.Library.{Library, reserved, entryOf}
-use Rattle.run.specs.Step.{State, Step, refused, refuse, limited, isSet, isUnknown, isNoSet, afterYank, obey, step}
+use Rattle.corrections.specs.Step.{State, Step, refused, refuse, limited, isSet, isUnknown, isNoSet, afterYank, obey, step}
 use Rattle.run.specs.Desk.{Tables, Held, Answered}
 use Rattle.run.specs.Resettled.{YankSteps}
 use Rattle.run.specs.YankNames.{namesIn, unknownIn, noSetIn, Settling, PutsYank}
 use Rattle.run.specs.declared.desk.Desk.{Desk}
 use Rattle.run.specs.declared.desk.Stepped.{Stepped}
 use Rattle.run.specs.declared.desk.Stepped.the-variants.{Refused as SteppedOff}
-use Rattle.run.specs.declared.Why.{Why}
-use Rattle.run.specs.declared.Why.the-variants.{Nowhere, Unknown, NoSet}
-use Rattle.run.proofs.FlatFind.{eqb-yes, eqb-no}
+use Rattle.corrections.specs.declared.Why.{Why}
+use Rattle.corrections.specs.declared.Why.the-variants.{Nowhere, Unknown, NoSet}
+use Rattle.corrections.proofs.FlatFind.{eqb-yes, eqb-no}
 
 -- ONE NAME
 module _ (directory : List ℕ) (w : ℕ) where

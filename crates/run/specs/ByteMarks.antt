@@ -13,7 +13,7 @@ use Rattle.words.specs.Text.{textWords}
 use Rattle.library.specs.Each.{Each}
 use Rattle.library.specs.Library.{Byte, Card}
 use Rattle.library.specs.Image.{cardWords, cardsWords}
-use Rattle.run.specs.Step.{mark}
+use Rattle.corrections.specs.Step.{mark}
 use Rattle.run.specs.CardHeads.{Fits, cardOf}
 use Rattle.run.specs.GapWords.{Parted, Put}
 use Rattle.run.specs.declared.gap.Gap.{Gap}

@@ -1,13 +1,13 @@
 -- A card's heads, the words of its history, and what is read of them (01, "Cards").
 --   of a card           ownByte, textOf, headWord, headsOf, headsLen, cardOf
 --   what fits           FitsByte, Fits
---   read of its words   headLen, Sees, SeesAny, FullAny
-use Prim.Native.Nat.{ℕ, suc, _+_, _*_, _^_, _≤_, _<_}
+--   read of its words   headLen, beyond, Sees, SeesAny, FullAny
+use Prim.Native.Nat.{ℕ, suc, _+_, _*_, _/_, _%_, _^_, _≤_, _<_}
 use mathlib.Core.Path.{_≡_}
 use mathlib.Core.Bool.{Bool, true, false}
 use mathlib.Core.List.{List, [], _∷_, _++_, map}
 use lib.Dec.{leb}
-use lib.ListN.{length, drop}
+use lib.ListN.{length, drop, getD}
 use Rattle.words.specs.Base.{if_then_else_}
 use Rattle.words.specs.Text.{textWords}
 use Rattle.library.specs.Each.{Each}
@@ -54,6 +54,10 @@ pub record Fits (c : Card) : Type 0 where
 unfoldable pub headLen : List ℕ → ℕ
 headLen [] = 0
 headLen (x ∷ xs) = if leb (2 ^ 59) x then 1 else suc (headLen xs)
+
+-- the word after the card that begins at `at`: past its heads, and past the words of text that its first head counts
+abbrev pub beyond : List ℕ → ℕ → ℕ
+beyond w at = at + headLen (drop at w) + getD w at 0 / 2 ^ 36 % 2 ^ 18
 
 -- what is seen of a card
 pub record Sees (yk : ℕ → Bool) (c : Card) (r : Seen) : Type 0 where

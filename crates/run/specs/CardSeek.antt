@@ -1,16 +1,17 @@
 -- Where a card stands among cards, and in their words (01, "Owner and sequence number identify a card").
 --   among cards   indexOf
---   in words      CardRun, Found, Finds
-use Prim.Native.Nat.{ℕ, suc, _+_}
+--   in words      namedAt, CardRun, Found, Finds
+use Prim.Native.Nat.{ℕ, suc, _+_, _/_, _%_, _^_}
 use mathlib.Core.Path.{_≡_}
-use mathlib.Core.Bool.{Bool}
+use mathlib.Core.Bool.{Bool, _&&_}
 use mathlib.Core.List.{List, [], _∷_, _++_}
-use lib.ListN.{length, take, drop}
+use lib.Dec.{eqb}
+use lib.ListN.{length, take, drop, getD}
 use Rattle.words.specs.Base.{if_then_else_}
 use Rattle.library.specs.Each.{Each}
 use Rattle.library.specs.Library.{Card}
 use Rattle.library.specs.Image.{cardsWords}
-use Rattle.run.specs.Step.{isNamed}
+use Rattle.corrections.specs.Step.{isNamed}
 use Rattle.run.specs.CardHeads.{Fits}
 use Rattle.run.specs.declared.seek.Place.{Place}
 
@@ -18,6 +19,10 @@ use Rattle.run.specs.declared.seek.Place.{Place}
 unfoldable pub indexOf : ℕ → ℕ → List Card → ℕ
 indexOf o s [] = 0
 indexOf o s (c ∷ cs) = if isNamed o s c then 0 else suc (indexOf o s cs)
+
+-- the first word of a card has this number and this owner
+abbrev pub namedAt : List ℕ → ℕ → ℕ → ℕ → Bool
+namedAt w at o s = eqb (getD w at 0 / 2 ^ 18 % 2 ^ 18) s && eqb (getD w at 0 % 2 ^ 16) o
 
 -- the words from `from` up to `to` are those of the cards
 pub record CardRun (w : List ℕ) (from to : ℕ) (yk : ℕ → Bool) (cs : List Card) (rest : List ℕ) : Type 0 where

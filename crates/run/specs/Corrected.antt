@@ -14,8 +14,8 @@ use Rattle.lines.specs.declared.CardName.{CardName}
 use Rattle.lines.specs.declared.Line.the-variants.{Insert, Before}
 use Rattle.library.specs.Library.{Card, Library, parts, stream, entryOf}
 use Rattle.library.specs.Yanks.{yanked}
-use Rattle.run.specs.Step.{State, Spot, isNamed, find, step}
-use Rattle.run.specs.Flat.{indexBy, Stood, flat}
+use Rattle.corrections.specs.Step.{State, Spot, isNamed, find, step}
+use Rattle.corrections.specs.Flat.{indexBy, Stood, flat}
 use Rattle.run.specs.SettledBits.{flagged}
 use Rattle.run.specs.Work.{Stands}
 use Rattle.run.specs.Desk.{Held, Answered}

@@ -14,9 +14,9 @@ use Rattle.words.specs.Base.{if_then_else_, allOf, member}
 use Rattle.library.specs.Library.{Card, Library, stream, deckNames}
 use Rattle.library.specs.Yanks.{yanked}
 use Rattle.library.specs.Image.{cardsWords}
-use Rattle.run.specs.Step.{TextPlace, nowhere, inYanks, inDeck, State, isSet, Step, went, refused}
-use Rattle.run.specs.Safe.{Safe}
-use Rattle.run.specs.Flat.{HasPlace, flatPlace, deckNumbers}
+use Rattle.corrections.specs.Step.{TextPlace, nowhere, inYanks, inDeck, State, isSet, Step, went, refused}
+use Rattle.corrections.specs.Safe.{Safe}
+use Rattle.corrections.specs.Flat.{HasPlace, flatPlace, deckNumbers}
 use Rattle.run.specs.GapWords.{Ordered}
 use Rattle.run.specs.SettledBits.{flagged}
 use Rattle.run.specs.Work.{Work}
@@ -26,8 +26,8 @@ use Rattle.run.specs.declared.desk.TextAt.{TextAt}
 use Rattle.run.specs.declared.desk.TextAt.the-variants.{Nowhere as TextNowhere, Yanks as TextYanks, Gap as TextGap}
 use Rattle.run.specs.declared.desk.Stepped.{Stepped}
 use Rattle.run.specs.declared.desk.Stepped.the-variants.{Went as SteppedOn, Refused as SteppedOff}
-use Rattle.run.specs.declared.Why.{Why}
-use Rattle.run.specs.declared.Why.the-variants.{Limit}
+use Rattle.corrections.specs.declared.Why.{Why}
+use Rattle.corrections.specs.declared.Why.the-variants.{Limit}
 
 -- 31 by counts: the words fit the array, and no limit is passed
 abbrev pub fitTests : Desk → List Bool
@@ -49,6 +49,8 @@ pub record Sane (w : List ℕ) (d : Desk) : Type 0 where
   pub decks : d .decks ≤ 254
   pub cards : d .cards ≤ 16383
   pub next : d .next ≤ d .cards + 1
+  pub yanks : d .yanks ≤ d .cards
+  pub low : d .low ≤ d .cards
 
 abbrev pub SaneAfter : List ℕ → Stepped → Type 0
 SaneAfter w (SteppedOn d) = Sane w d
@@ -80,6 +82,7 @@ pub record Held (w dir names decks flags : List ℕ) (d : Desk) (s : State) : Ty
   pub above : List Card
   pub work : Work w (d .gap) (yanked (s .lib) 0) below above
   pub whole : below ++ above ≡ stream (s .lib)
+  pub low : d .low ≡ length below
   pub cards : d .cards ≡ length (stream (s .lib))
   pub tables : Tables dir names decks d (s .lib)
   pub yanks : d .yanks ≡ length (s .lib .yanks)
@@ -96,6 +99,7 @@ pub record HeldUnder (yk : ℕ → Bool) (w dir names decks : List ℕ) (d : Des
   pub above : List Card
   pub work : Work w (d .gap) yk below above
   pub whole : below ++ above ≡ stream (s .lib)
+  pub low : d .low ≡ length below
   pub cards : d .cards ≡ length (stream (s .lib))
   pub tables : Tables dir names decks d (s .lib)
   pub yanks : d .yanks ≡ length (s .lib .yanks)

@@ -1,17 +1,9 @@
-pub mod Step
-pub mod Run
-pub mod Units
-pub mod RunSound
-pub mod Cut
-pub mod Kept
 pub mod CardHeads
 pub mod GapWords
 pub mod CardSeek
 pub mod ByteMarks
 pub mod SettledBits
 pub mod Work
-pub mod Flat
-pub mod Safe
 pub mod Desk
 pub mod Obeyed
 pub mod Corrected

@@ -12,9 +12,9 @@ use Rattle.library.specs.Library.{Card, Library, entryOf}
 use Rattle.library.specs.Yanks.{yanked}
 use Rattle.library.specs.Image.{cardsWords}
 use Rattle.library.specs.Check.{good, check}
-use Rattle.run.specs.Step.{start}
+use Rattle.corrections.specs.Step.{start}
 use Rattle.run.specs.CardSeek.{CardRun}
-use Rattle.run.specs.Flat.{indexBy}
+use Rattle.corrections.specs.Flat.{indexBy}
 use Rattle.run.specs.SettledBits.{flagged}
 use Rattle.run.specs.Corrected.{titled}
 use Rattle.run.specs.Desk.{HeldUnder}

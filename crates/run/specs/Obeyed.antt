@@ -15,7 +15,7 @@ use Rattle.lines.specs.Directive.{directive}
 use Rattle.lines.specs.declared.Line.{Line}
 use Rattle.lines.specs.declared.Line.the-variants.{Text, Ident, Deck as DeckLine·, Comdeck}
 use Rattle.library.specs.Library.{Card}
-use Rattle.run.specs.Step.{State, step}
+use Rattle.corrections.specs.Step.{State, step}
 use Rattle.run.specs.CardHeads.{cardOf}
 use Rattle.run.specs.Work.{Work, PutCard}
 use Rattle.run.specs.Desk.{Sane, SaneAfter, Held, Answered}

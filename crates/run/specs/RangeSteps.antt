@@ -13,8 +13,8 @@ use Rattle.words.specs.Base.{any, all}
 use Rattle.lines.specs.declared.CardName.{CardName}
 use Rattle.library.specs.Library.{Card, stream}
 use Rattle.library.specs.Image.{cardsWords, shortHistory}
-use Rattle.run.specs.Step.{inYanks, State, isSet, refuse, limited, Spot, isBarred, afterMark, step}
-use Rattle.run.specs.Safe.{Safe}
+use Rattle.corrections.specs.Step.{inYanks, State, isSet, refuse, limited, Spot, isBarred, afterMark, step}
+use Rattle.corrections.specs.Safe.{Safe}
 use Rattle.run.specs.CardSeek.{CardRun}
 use Rattle.run.specs.Work.{Work}
 use Rattle.run.specs.Desk.{Tables, Held, Answered}
@@ -23,7 +23,7 @@ use Rattle.run.specs.declared.gap.Gap.{Gap}
 use Rattle.run.specs.declared.desk.Desk.{Desk}
 use Rattle.run.specs.declared.desk.Stepped.{Stepped}
 use Rattle.run.specs.declared.fixes.Sought.{Sought}
-use Rattle.run.specs.declared.Why.the-variants.{Barred}
+use Rattle.corrections.specs.declared.Why.the-variants.{Barred}
 
 -- a deck card, by its owner and number
 abbrev pub isTitle : List ℕ → Card → Bool

@@ -12,7 +12,7 @@ use Rattle.lines.specs.Directive.{directive}
 use Rattle.lines.specs.declared.CardName.{CardName}
 use Rattle.lines.specs.declared.Line.{Line}
 use Rattle.lines.specs.declared.Line.the-variants.{Delete, Restore, Yank as YankLine}
-use Rattle.run.specs.Step.{State, Step, step}
+use Rattle.corrections.specs.Step.{State, Step, step}
 use Rattle.run.specs.Desk.{Held, HeldUnder, Answered}
 use Rattle.run.specs.declared.desk.Desk.{Desk}
 use Rattle.run.specs.declared.desk.Stepped.{Stepped}

@@ -5,8 +5,8 @@ use Prim.Native.Nat.{ℕ}
 use mathlib.Core.Path.{_≡_}
 use mathlib.Core.List.{List}
 use Rattle.lines.specs.Directive.{lines}
-use Rattle.run.specs.Step.{State}
-use Rattle.run.specs.Run.{Steps, ended, stopped, steps}
+use Rattle.corrections.specs.Step.{State}
+use Rattle.corrections.specs.Run.{Steps, ended, stopped, steps}
 use Rattle.run.specs.Desk.{Sane}
 use Rattle.run.specs.Resettled.{Arrays, HeldIn}
 use Rattle.run.specs.declared.desk.Desk.{Desk}

@@ -9,13 +9,14 @@ use Prim.Native.Nat.{ℕ, _+_, _-_, _≤_, _<_}
 use mathlib.Core.Path.{_≡_}
 use mathlib.Core.Bool.{Bool, true, false, _&&_}
 use mathlib.Core.List.{List, [], _∷_, _++_}
-use lib.Dec.{leb}
+use lib.Dec.{T, leb}
 use lib.ListN.{length, take, drop}
 use Rattle.words.specs.Base.{all}
 use Rattle.words.specs.Text.{textWords}
 use Rattle.library.specs.Each.{Each}
 use Rattle.library.specs.Library.{Card}
 use Rattle.library.specs.Image.{cardsWords, shortHistory}
+use Rattle.library.specs.Sound.{noTwo, sameCard}
 use Rattle.run.specs.CardHeads.{Fits, cardOf}
 use Rattle.run.specs.CardSeek.{indexOf}
 use Rattle.run.specs.GapWords.{Ordered, Parted}
@@ -43,8 +44,10 @@ pub record Located (w : List ℕ) (g : Gap) (yk : ℕ → Bool) (cs1 cs2 : List 
   pub found : r .index < length (cs1 ++ cs2) → r .at < length w
   pub missing : length (cs1 ++ cs2) ≤ r .index → r .at ≡ length w
 
-abbrev pub Locates : List ℕ → Gap → ℕ → ℕ → Place → Type 0
-Locates w g o s r = (yk : ℕ → Bool) (cs1 cs2 : List Card) → Work w g yk cs1 cs2 → Located w g yk cs1 cs2 o s r
+-- where so many stand below the gap, and "no two cards share both"
+abbrev pub Locates : List ℕ → Gap → ℕ → ℕ → ℕ → Place → Type 0
+Locates w g low o s r =
+    (yk : ℕ → Bool) (cs1 cs2 : List Card) → Work w g yk cs1 cs2 → low ≡ length cs1 → T (noTwo sameCard (cs1 ++ cs2)) → Located w g yk cs1 cs2 o s r
 
 -- PLACING THE GAP: "INSERT: text goes directly after the card", "BEFORE: directly ahead of it"
 abbrev pub OpensAfter : List ℕ → Gap → ℕ → List ℕ → Gap → Type 0

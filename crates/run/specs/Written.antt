@@ -10,12 +10,12 @@ use Rattle.library.specs.Image.{header}
 use Rattle.lines.specs.Directive.{lines}
 use Rattle.library.specs.Library.{Library}
 use Rattle.library.specs.Check.{good, check}
-use Rattle.run.specs.Step.{State, start}
-use Rattle.run.specs.Run.{Steps, ended, steps, update, Running, fitted, fromUpdated, ran, runInto}
+use Rattle.corrections.specs.Step.{State, start}
+use Rattle.corrections.specs.Run.{Steps, ended, steps, update, Running, fitted, fromUpdated, ran, runInto}
 use Rattle.run.specs.Desk.{Held}
 use Rattle.run.specs.Resettled.{Arrays, HeldIn}
 use Rattle.run.specs.declared.desk.Desk.{Desk}
-use Rattle.run.specs.declared.Ran.{Ran}
+use Rattle.corrections.specs.declared.Ran.{Ran}
 
 -- the tables' words, then those of the cards below the gap and above it
 unfoldable pub imageWords : List ℕ → List ℕ → List ℕ → Desk → List ℕ

@@ -12,7 +12,7 @@ use Rattle.words.specs.Names.{wordOfName}
 use Rattle.lines.specs.Directive.{directive, params}
 use Rattle.lines.specs.declared.Line.the-variants.{Yank as YankLine}
 use Rattle.library.specs.Library.{reserved, entryOf}
-use Rattle.run.specs.Step.{State, limited, afterYank, step}
+use Rattle.corrections.specs.Step.{State, limited, afterYank, step}
 use Rattle.run.specs.Desk.{Held, Answered}
 use Rattle.run.specs.Resettled.{Resettled}
 use Rattle.run.specs.declared.desk.Desk.{Desk}

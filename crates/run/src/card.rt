@@ -3,7 +3,7 @@ ghost use mathlib.Core.Path.{_≡_};
 ghost use mathlib.Core.Bool.{Bool, true, false};
 ghost use Prim.Native.Nat.{ℕ, _+_, _-_, _*_, _/_, _%_, _^_, _≤_, _<_};
 ghost use lib.ListN.{length, drop};
-ghost use Rattle.run.specs.CardHeads.{headLen, SeesAny, FullAny};
+ghost use Rattle.run.specs.CardHeads.{headLen, beyond, SeesAny, FullAny};
 
 // A field of 18 bits: a history byte, the sequence number, the words of text.
 pub(crate) const FIELD: u64 = 262144;
@@ -58,6 +58,21 @@ pub(crate) fn see(w: &[u64], at: usize) -> Seen
         heads: n,
         count: (x / UPPER % FIELD) as usize,
     }
+}
+
+// The word after a card: most have one word of history, whose text follows at once.
+pub(crate) fn next_card(w: &[u64], at: usize) -> usize
+    requires { ⌜ at < length (now w) ⌝ }
+    ensures { λ r. ⌜ (at < r) × (r < length (now (w .entry)) + 262144) ⌝ }
+    ensures { λ r. ⌜ r ≡ beyond (now (w .entry)) at ⌝ }
+{
+    let x = w[at];
+    let count = (x / UPPER % FIELD) as usize;
+    if LAST <= x {
+        return at + 1 + count;
+    }
+    let n = head_len(w, at + 1);
+    at + 1 + n + count
 }
 
 // Whether the history at `at` has 64 bytes, so that one more would pass the limit of row 5.

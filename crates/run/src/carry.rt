@@ -7,12 +7,12 @@ ghost use lib.Seq.{paste};
 ghost use Rattle.library.specs.Image.{header};
 ghost use Rattle.run.specs.Desk.{Sane};
 ghost use Rattle.run.specs.Written.{imageWords, Finishes};
-use crate::Ran;
-use crate::Why;
 use crate::card::FIELD;
 use crate::desk::AHEAD;
 use crate::desk::Desk;
 use crate::desk::ROOM;
+use corrections::Ran;
+use corrections::Why;
 
 // The k words from `first` on go to the place `at`.
 pub(crate) fn copy_words(out: &mut [u64], at: usize, from: &[u64], first: usize, k: usize)

@@ -2,8 +2,8 @@
 ghost use mathlib.Core.Path.{_≡_};
 ghost use Prim.Native.Nat.{_≤_};
 ghost use Rattle.run.specs.Desk.{fitted};
-use crate::Why;
 use crate::gap::Gap;
+use corrections::Why;
 
 // Where a text line goes.
 pub(crate) enum TextAt {
@@ -16,6 +16,8 @@ pub(crate) enum TextAt {
 
 pub(crate) struct Desk {
     pub(crate) gap: Gap,
+    // the cards below it
+    pub(crate) low: usize,
     // the entries of the directory, the decks without YANK$$$, all cards
     pub(crate) entries: usize,
     pub(crate) decks: usize,

@@ -4,7 +4,6 @@ ghost use Prim.Native.Nat.{_≤_, _<_};
 ghost use lib.ListN.{length};
 ghost use Rattle.run.specs.Desk.{Sane, SaneAfter};
 ghost use Rattle.run.specs.Corrected.{titled, SeeksCard, InsertSteps, BeforeSteps};
-use crate::Why;
 use crate::desk::Desk;
 use crate::desk::Stepped;
 use crate::desk::TextAt;
@@ -12,6 +11,7 @@ use crate::gap::open_after;
 use crate::gap::open_ahead;
 use crate::seek::locate;
 use crate::starts::entry_of;
+use corrections::Why;
 use lines::CardName;
 
 // A card as it was sought: its owner's number, the word it begins at, and its index in the stream; the count of cards where there is none.
@@ -36,7 +36,7 @@ pub(crate) fn seek_card(w: &[u64], dir: &[u64], d: Desk, r: CardName) -> Sought
         };
     }
     let g = d.gap;
-    let p = locate(w, g, own, r.seq);
+    let p = locate(w, g, d.low, own, r.seq);
     Sought {
         own: own,
         at: p.at,
@@ -64,6 +64,7 @@ pub(crate) fn insert_step(w: &mut [u64], dir: &[u64], d: Desk, r: CardName) -> S
     let h = open_after(w, g, f.at);
     Stepped::Went(Desk {
         gap: h,
+        low: f.index + 1,
         entries: d.entries,
         decks: d.decks,
         cards: d.cards,
@@ -121,6 +122,7 @@ pub(crate) fn before_step(
     let h = open_ahead(w, g, f.at);
     Stepped::Went(Desk {
         gap: h,
+        low: f.index,
         entries: d.entries,
         decks: d.decks,
         cards: d.cards,

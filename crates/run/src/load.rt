@@ -97,6 +97,7 @@ pub(crate) fn load(
     let c = find(w, 0, lo, 0, 0);
     Desk {
         gap: Gap { lo: lo, hi: ROOM },
+        low: c.index,
         entries: n,
         decks: k - 1,
         cards: c.index,

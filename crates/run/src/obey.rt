@@ -5,7 +5,6 @@ ghost use lib.ListN.{length};
 ghost use Rattle.run.specs.Desk.{Sane, SaneAfter};
 ghost use Rattle.run.specs.Streamed.{inArrays};
 ghost use Rattle.run.specs.Resettled.{ObeysLine};
-use crate::Why;
 use crate::desk::Desk;
 use crate::desk::Stepped;
 use crate::fixes::before_step;
@@ -15,6 +14,7 @@ use crate::starts::deck_step;
 use crate::starts::ident_step;
 use crate::texts::text_step;
 use crate::yanks::yank_step;
+use corrections::Why;
 use lines::Line;
 
 pub(crate) fn obey_line(

@@ -4,9 +4,9 @@ ghost use Prim.Native.Nat.{_≤_, _<_};
 ghost use lib.ListN.{length};
 ghost use Rattle.run.specs.GapWords.{Ordered};
 ghost use Rattle.run.specs.Desk.{Sane, SaneAfter};
+ghost use Rattle.run.specs.Corrected.{SeeksCard};
 ghost use Rattle.run.specs.Resettled.{MarkSteps};
 ghost use Rattle.run.specs.RangeSteps.{HasTitle, LeadAfter, YankMarks, MarksFound};
-use crate::Why;
 use crate::card::see;
 use crate::desk::Desk;
 use crate::desk::Stepped;
@@ -21,6 +21,7 @@ use crate::gap::open_at;
 use crate::marks::Marked;
 use crate::marks::mark_between;
 use crate::yanks::resettle;
+use corrections::Why;
 use lines::CardName;
 
 // Whether one of the n cards from `from` on is a deck card.
@@ -74,6 +75,7 @@ fn yank_marked(w: &mut [u64], dir: &[u64], flags: &mut [u64], d: Desk, h: Gap) -
     let m = open_at(w, h, n);
     let r = limited(Desk {
         gap: m,
+        low: d.yanks,
         entries: d.entries,
         decks: d.decks,
         cards: d.cards,
@@ -104,7 +106,7 @@ fn mark_found(
     l: Sought,
     seq: u64,
 ) -> Stepped
-    requires { ⌜ Sane (now w) d × ((length (now dir) ≡ 1024) × ((1024 < length (now flags)) × ((was < 2) × ((f .index ≤ l .index) × (l .index ≤ 16383))))) ⌝ }
+    requires { ⌜ Sane (now w) d × ((length (now dir) ≡ 1024) × ((1024 < length (now flags)) × ((was < 2) × ((f .index ≤ l .index) × (l .index < d .cards))))) ⌝ }
     ensures { λ e. ⌜ SaneAfter (now (w .exit)) e ⌝ }
     ensures { λ e. ⌜ MarksFound (now (w .entry)) (now (dir .entry)) (now (decks .entry)) (now (flags .entry)) d was f l seq (now (w .exit)) (now (flags .exit)) e ⌝ }
 {
@@ -124,6 +126,7 @@ fn mark_found(
             }
             limited(Desk {
                 gap: k,
+                low: l.index + 1,
                 entries: d.entries,
                 decks: d.decks,
                 cards: d.cards,
@@ -135,6 +138,21 @@ fn mark_found(
             })
         }
     }
+}
+
+// The last card of a range whose first is f. `*DELETE X.n` names one card for both, and that one is not sought again.
+fn seek_last(w: &[u64], dir: &[u64], d: Desk, a: CardName, f: Sought, b: CardName) -> Sought
+    requires { ⌜ Sane (now w) d × ((length (now dir) ≡ 1024) × ((f .own ≤ 1023) × (f .at ≤ length (now w)))) ⌝ }
+    requires { ⌜ SeeksCard (now w) (now dir) d a f ⌝ }
+    ensures { λ l. ⌜ (l .own ≤ 1023) × (l .at ≤ length (now (w .entry))) ⌝ }
+    ensures { λ l. ⌜ SeeksCard (now (w .entry)) (now (dir .entry)) d b l ⌝ }
+{
+    if a.seq == b.seq {
+        if a.name == b.name {
+            return f;
+        }
+    }
+    seek_card(w, dir, d, b)
 }
 
 // DELETE (was 1) and RESTORE (was 0).
@@ -159,7 +177,7 @@ pub(crate) fn mark_step(
     if d.cards <= f.index {
         return Stepped::Refused(Why::NoCard);
     }
-    let l = seek_card(w, dir, d, b);
+    let l = seek_last(w, dir, d, a, f, b);
     if d.cards <= l.index {
         return Stepped::Refused(Why::NoCard);
     }

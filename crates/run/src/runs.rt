@@ -6,14 +6,14 @@ ghost use Rattle.run.specs.Loaded.{Readable};
 ghost use Rattle.run.specs.Desk.{Sane};
 ghost use Rattle.run.specs.Streamed.{inArrays};
 ghost use Rattle.run.specs.Written.{Begins, RunsFrom, RunsLines, RunsStream};
-use crate::Ran;
-use crate::Why;
 use crate::carry::finish;
 use crate::desk::Desk;
 use crate::load::load;
 use crate::streams::Ended;
 use crate::streams::obey_stream;
 use crate::yanks::resettle;
+use corrections::Ran;
+use corrections::Why;
 
 // The longest stream, in bytes.
 const STREAM: usize = 262144;

@@ -5,16 +5,14 @@ ghost use lib.ListN.{length, take};
 ghost use Rattle.library.specs.Library.{entryOf};
 ghost use Rattle.run.specs.Obeyed.{StaysSane, IdentSteps, DeckSteps};
 ghost use Rattle.run.specs.Desk.{Sane, SaneAfter};
-use crate::Why;
+ghost use Rattle.run.specs.YankNames.{unknownIn};
 use crate::desk::Desk;
 use crate::desk::Stepped;
 use crate::desk::TextAt;
 use crate::desk::limited;
 use crate::gap::open_ahead;
 use crate::texts::put_line;
-
-// YANK$$$ as a directory word
-pub(crate) const RESERVED: u64 = 0o31011613535353000000;
+use corrections::Why;
 
 // The number of a name among the first n of the directory; 0 where it is not there.
 pub(crate) fn entry_of(dir: &[u64], n: usize, w: u64) -> usize
@@ -32,23 +30,32 @@ pub(crate) fn entry_of(dir: &[u64], n: usize, w: u64) -> usize
     0
 }
 
+// Whether a name is not known, by the n entries of the directory: YANK$$$ always is.
+pub(crate) fn is_unknown(dir: &[u64], n: usize, w: u64) -> bool
+    requires { ⌜ n ≤ length (now dir) ⌝ }
+    ensures { λ r. ⌜ r ≡ unknownIn (take n (now (dir .entry))) w ⌝ }
+{
+    if w == library::reserved_word() {
+        return false;
+    }
+    entry_of(dir, n, w) == 0
+}
+
 // IDENT: a set begins, and text goes nowhere yet.
 pub(crate) fn ident_step(dir: &mut [u64], d: Desk, word: u64) -> Stepped
     requires { ⌜ (length (now dir) ≡ 1024) × ((d .entries ≤ 1023) × ((d .decks ≤ 254) × ((d .gap .lo ≤ 65536) × (d .gap .hi ≤ 65536)))) ⌝ }
     ensures { λ r. ⌜ StaysSane d r ⌝ }
     ensures { λ r. ⌜ IdentSteps (now (dir .entry)) d word (now (dir .exit)) r ⌝ }
 {
-    if word == RESERVED {
-        return Stepped::Refused(Why::Known);
-    }
     let n = d.entries;
-    if 0 < entry_of(dir, n, word) {
+    if !is_unknown(dir, n, word) {
         return Stepped::Refused(Why::Known);
     }
     dir[n] = word;
     let g = d.gap;
     limited(Desk {
         gap: g,
+        low: d.low,
         entries: n + 1,
         decks: d.decks,
         cards: d.cards,
@@ -74,12 +81,9 @@ pub(crate) fn deck_step(
     ensures { λ r. ⌜ SaneAfter (now (w .exit)) r ⌝ }
     ensures { λ r. ⌜ DeckSteps (now (w .entry)) (now (dir .entry)) (now (names .entry)) (now (decks .entry)) d word (now (line .entry)) (now (w .exit)) (now (dir .exit)) (now (names .exit)) (now (decks .exit)) r ⌝ }
 {
-    if word == RESERVED {
-        return Stepped::Refused(Why::Known);
-    }
     let n = d.entries;
     let k = d.decks + 1;
-    if 0 < entry_of(dir, n, word) {
+    if !is_unknown(dir, n, word) {
         return Stepped::Refused(Why::Known);
     }
     let g = d.gap;
@@ -91,6 +95,7 @@ pub(crate) fn deck_step(
     decks[n + 1] = 1;
     limited(Desk {
         gap: h,
+        low: d.cards + 1,
         entries: n + 1,
         decks: k,
         cards: d.cards + 1,

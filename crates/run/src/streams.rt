@@ -4,10 +4,10 @@ ghost use Prim.Native.Nat.{_≤_, _<_};
 ghost use lib.ListN.{length};
 ghost use Rattle.run.specs.Desk.{Sane};
 ghost use Rattle.run.specs.Streamed.{inArrays, SaneEnd, ObeysStream};
-use crate::Why;
 use crate::desk::Desk;
 use crate::desk::Stepped;
 use crate::obey::obey_line;
+use corrections::Why;
 
 // All lines obeyed; or why one is refused, and its number.
 pub(crate) enum Ended {

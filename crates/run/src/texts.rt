@@ -4,13 +4,13 @@ ghost use lib.ListN.{length};
 ghost use Rattle.run.specs.GapWords.{Ordered};
 ghost use Rattle.run.specs.Desk.{Sane, SaneAfter};
 ghost use Rattle.run.specs.Obeyed.{PutsLine, TextSteps};
-use crate::Why;
 use crate::desk::Desk;
 use crate::desk::Stepped;
 use crate::desk::TextAt;
 use crate::desk::limited;
 use crate::gap::Gap;
 use crate::put::put_card;
+use corrections::Why;
 use words::Compressed;
 
 // A new card at the gap with the line's text. Where its words do not fit, lo passes hi.
@@ -43,6 +43,7 @@ pub(crate) fn text_step(w: &mut [u64], d: Desk, line: &[u8]) -> Stepped
             let h = put_line(w, g, line, d.next, d.entries as u64);
             limited(Desk {
                 gap: h,
+                low: d.low + 1,
                 entries: d.entries,
                 decks: d.decks,
                 cards: d.cards + 1,

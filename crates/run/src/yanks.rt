@@ -6,16 +6,16 @@ ghost use Rattle.words.specs.Base.{any, member};
 ghost use Rattle.run.specs.Desk.{Sane, SaneAfter};
 ghost use Rattle.run.specs.Resettled.{Resettled, YankSteps};
 ghost use Rattle.run.specs.YankNames.{namesIn, unknownIn, noSetIn, LeadAfter, PutsYank};
-use crate::Why;
 use crate::desk::Desk;
 use crate::desk::Stepped;
 use crate::desk::TextAt;
 use crate::desk::limited;
 use crate::gap::open_at;
 use crate::settle::settle_all;
-use crate::starts::RESERVED;
 use crate::starts::entry_of;
+use crate::starts::is_unknown;
 use crate::texts::put_line;
+use corrections::Why;
 use lines::NameStep;
 
 // Whether w stands among the first n words of a list.
@@ -31,17 +31,6 @@ fn stands(list: &[u64], n: usize, w: u64) -> bool
         i += 1;
     }
     false
-}
-
-// 26 of one name, by the n entries of the directory.
-fn is_unknown(dir: &[u64], n: usize, w: u64) -> bool
-    requires { ⌜ n ≤ length (now dir) ⌝ }
-    ensures { λ r. ⌜ r ≡ unknownIn (take n (now (dir .entry))) w ⌝ }
-{
-    if w == RESERVED {
-        return false;
-    }
-    entry_of(dir, n, w) == 0
 }
 
 // 27 of one name: a deck's, YANK$$$, or that of the set itself, which is the directory's last.
@@ -99,11 +88,8 @@ fn put_yank(w: &mut [u64], d: Desk, line: &[u8]) -> Stepped
     ensures { λ e. ⌜ SaneAfter (now (w .exit)) e × LeadAfter e ⌝ }
     ensures { λ e. ⌜ PutsYank (now (w .entry)) d (now (line .entry)) (now (w .exit)) e ⌝ }
 {
-    // never so of a library in work: YANK$$$ has no more words than the array, and no more cards than the library
+    // never so of a library in work: YANK$$$ has no more words than the array
     if w.len() < d.lead {
-        return Stepped::Refused(Why::Limit);
-    }
-    if d.cards < d.yanks {
         return Stepped::Refused(Why::Limit);
     }
     let g = d.gap;
@@ -111,6 +97,7 @@ fn put_yank(w: &mut [u64], d: Desk, line: &[u8]) -> Stepped
     let h = put_line(w, m, line, d.next, d.entries as u64);
     limited(Desk {
         gap: h,
+        low: d.yanks + 1,
         entries: d.entries,
         decks: d.decks,
         cards: d.cards + 1,

@@ -1,17 +1,17 @@
 -- The chart read both ways: each rule is one test that antt computes over the whole chart. Assumes nothing.
-use Prim.Native.Nat.{ℕ, suc, _≤_, _<_}
+use Prim.Native.Nat.{ℕ, suc, _-_, _*_, _/_, _%_, _^_, _≤_, _<_}
 use native.Mathlib.Omega.{arith}
 use native.Mathlib.Decide.{decLt}
-use mathlib.Core.Path.{_≡_, refl}
+use mathlib.Core.Path.{_≡_, refl, ap, _∙_}
 use mathlib.Core.Bool.{Bool, true, false, _||_, not}
 use mathlib.Core.List.{List, [], _∷_}
-use borrow.Author.Tests.{ne-eqb}
+use borrow.Author.Tests.{ne-eqb, le-ltb}
 use lib.Dec.{T, eqb, eqb→eq, ltb, ltb→lt}
 use lib.ListN.{getD}
 use Rattle.words.specs.Base.{all}
-use Rattle.words.specs.Display.{chart, codeFrom, codeOf, inChart, letter, blank}
+use Rattle.words.specs.Display.{chart, codeFrom, codeOf, inChart, letter, lettersAt, codesAt, blank}
 use Rattle.words.proofs.Tests.{and-left, and-right}
-use Rattle.words.proofs.Table.{table, entry, below}
+use Rattle.words.proofs.Table.{below}
 
 -- a byte above all of a list has no place in it
 out-from : (b n m : ℕ) (xs : List ℕ) → m ≤ b → T (all (λ x. ltb x m) xs) → codeFrom b n xs ≡ 64
@@ -20,15 +20,33 @@ out-from b n m (x ∷ xs) h t =
     let l : x < m = ltb→lt x m (and-left (ltb x m) (all (λ y. ltb y m) xs) t) in
     rw (ne-eqb b x (λ e. omega arith)) (out-from b (suc n) m xs h (and-right (ltb x m) (all (λ y. ltb y m) xs) t))
 
-pub code-outside : (b : ℕ) → 128 ≤ b → codeOf b ≡ 64
+pub code-outside : (b : ℕ) → 96 ≤ b → codeOf b ≡ 64
 unfolding codeOf
-code-outside b h = out-from b 0 128 chart h tt
+code-outside b h = out-from b 0 96 chart h tt
 
-pub code-table : (b : ℕ) → b < 128 → getD (table codeOf 128) b 0 ≡ codeOf b
-code-table b h = entry codeOf 128 b 0 h
+pub code-under : (b : ℕ) → b < 32 → codeOf b ≡ 64
+unfolding codeOf
+code-under b h = eqb→eq (codeOf b) 64 (below (λ k. eqb (codeOf k) 64) 32 b tt h)
 
-pub letter-table : (c : ℕ) → c < 64 → getD (table letter 64) c 0 ≡ letter c
-letter-table c h = entry letter 64 c 0 h
+abbrev coded : ℕ → ℕ
+coded b = codesAt ((b - 32) / 8) / 2 ^ (b % 8 * 8) % 256
+
+abbrev right-code : ℕ → Bool
+right-code b = ltb b 32 || eqb (coded b) (codeOf b)
+
+pub code-among : (b x : ℕ) → 32 ≤ b → b < 96 → x ≡ codesAt ((b - 32) / 8) → x / 2 ^ (b % 8 * 8) % 256 ≡ codeOf b
+unfolding codesAt codeOf
+code-among b x h l is =
+    ap (λ (i : ℕ). i / 2 ^ (b % 8 * 8) % 256) is
+    ∙ eqb→eq (coded b) (codeOf b) (rw (le-ltb b 32 h) at (below right-code 96 b tt l))
+
+abbrev among : ℕ → ℕ
+among c = lettersAt (c / 8) / 2 ^ (c % 8 * 8) % 256
+
+pub letter-among : (c x : ℕ) → c < 64 → x ≡ lettersAt (c / 8) → x / 2 ^ (c % 8 * 8) % 256 ≡ letter c
+unfolding lettersAt letter
+letter-among c x h is =
+    ap (λ (i : ℕ). i / 2 ^ (c % 8 * 8) % 256) is ∙ eqb→eq (among c) (letter c) (below (λ k. eqb (among k) (letter k)) 64 c tt h)
 
 pub code-letter : (c : ℕ) → c < 64 → codeOf (letter c) ≡ c
 unfolding codeOf letter

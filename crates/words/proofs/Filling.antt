@@ -1,10 +1,10 @@
 -- Words filled with ten codes each, one code at a time. Assumes nothing.
-use Prim.Native.Nat.{ℕ, zero, suc, _+_, _-_, _*_, _^_, _≤_, _<_}
+use Prim.Native.Nat.{ℕ, zero, suc, _+_, _-_, _*_, _%_, _^_, _≤_, _<_}
 use native.Mathlib.Omega.{arith}
 use native.Mathlib.Numerals.{add-one}
 use native.Mathlib.Nat.{pow-suc, pow-le-pow-right, mul-lt-mul-of-pos-right}
-use lib.Pow.{pow-add}
-use mathlib.Core.Path.{_≡_, sym, ap, ap₂, _∙_, subst}
+use lib.Pow.{pow-add, shl-exact}
+use mathlib.Core.Path.{_≡_, refl, sym, ap, ap₂, _∙_, subst}
 use mathlib.Core.List.{List, [], _∷_, _++_, append-assoc, append-nil}
 use borrow.Author.Tests.{ne-eqb}
 use lib.Dec.{T, ltb→lt, lit<}
@@ -14,7 +14,6 @@ use Rattle.words.specs.Base.{all}
 use Rattle.words.specs.Text.{fill, wordsOf}
 use Rattle.words.proofs.Tests.{and-left, and-right}
 use Rattle.words.proofs.Compressing.{isCode}
-use Rattle.words.proofs.Table.{table, entry}
 
 pub codes-below : (cs : List ℕ) → T (all isCode cs) → (j : ℕ) → getD cs j 0 < 64
 codes-below [] t j = lit< tt
@@ -25,9 +24,6 @@ codes-below (x ∷ xs) t (suc j) = codes-below xs (and-right (isCode x) (all isC
 abbrev pub power : ℕ → ℕ
 power k = 64 ^ k
 
-pub power-table : (k : ℕ) → k < 10 → getD (table power 10) k 0 ≡ power k
-power-table k h = entry power 10 k 0 h
-
 pub power-more : (w k x : ℕ) → w < 64 ^ k → x < 64 → w * 64 + x < 64 ^ (k + 1)
 power-more w k x h l = rw (add-one, pow-suc 64 k) (omega arith)
 
@@ -36,6 +32,18 @@ power-low w k j h l = omega (arith, pow-le-pow-right {n = 64} (lit< tt) h)
 
 pub power-pos : (j : ℕ) → 0 < 64 ^ j
 power-pos j = let h : 0 ≤ j = omega arith in omega (arith, pow-le-pow-right {n = 64} (lit< tt) h)
+
+-- six bits a place
+pub bits-power : (k : ℕ) → 2 ^ (6 * k) ≡ 64 ^ k
+bits-power zero = refl
+bits-power (suc k) =
+    let e : 6 * suc k ≡ 6 * k + 6 = omega arith in
+    ap (λ (n : ℕ). 2 ^ n) e ∙ pow-add 2 (6 * k) 6 ∙ ap (λ (n : ℕ). n * 64) (bits-power k) ∙ sym (pow-suc 64 k)
+
+pub shifted : (k : ℕ) → k < 10 → (1 * 2 ^ (6 * k)) % 2 ^ 64 ≡ 64 ^ k
+shifted k h =
+    let one : 1 * 2 ^ (6 * k) ≡ 2 ^ (6 * k) = omega arith in
+    shl-exact {a = 1} 1 (6 * k) 64 (lit< tt) (omega arith) ∙ one ∙ bits-power k
 
 pub power-fits : (w k : ℕ) → k ≤ 10 → w < 64 ^ k → w * 64 ^ (10 - k) < 2 ^ 60
 power-fits w k h l = subst (λ (n : ℕ). w * 64 ^ (10 - k) < n) e (mul-lt-mul-of-pos-right l (power-pos (10 - k)))

@@ -1,16 +1,16 @@
 -- Codes that are taken one by one are those that their line is written in. Assumes nothing.
-use Prim.Native.Nat.{ℕ, zero, suc, _+_, _-_, _*_, _≤_}
+use Prim.Native.Nat.{ℕ, zero, suc, _+_, _*_, _≤_, _<_}
 use native.Mathlib.Omega.{arith}
 use mathlib.Core.Path.{_≡_, refl, sym, ap, _∙_, subst}
 use mathlib.Core.Bool.{Bool, true, false}
 use mathlib.Core.List.{List, [], _∷_, _++_, append-assoc}
-use borrow.Author.Tests.{ne-eqb, eqb-true, le-ltb}
+use borrow.Author.Tests.{ne-eqb, eqb-true, lt-ltb, le-ltb}
 use lib.Dec.{T, eqb, ltb, ltb→lt}
 use lib.ListN.{length, replicate, length-append, length-replicate}
 use Rattle.words.specs.Base.{if_then_else_, all}
 use Rattle.words.specs.Text.{gap, blanks, sign, squeeze, compress, columnsOf}
 use Rattle.words.specs.Form.{full, one, free, signed, start, ended, pairOrEnd, pairNext, colonNext, refused, step, secondCode, columnsIn, after, count, mayEnd}
-use Rattle.words.proofs.Tests.{and-left, and-right}
+use Rattle.words.proofs.Tests.{true-T, and-left, and-right}
 use Rattle.words.proofs.Trimming.{endsWell}
 use Rattle.words.proofs.Compressing.{isCode, three, columns-sign, sign-append}
 use Rattle.words.proofs.TextTrip.{columns-zeros}
@@ -145,7 +145,9 @@ module _ (c : ℕ) (r : List ℕ) (e : eqb (suc c) gap ≡ false) where
   step-sign s l = rw (l, ne-eqb (suc c) 0 (λ q. omega arith), e)
 
   column-sign : (s : ℕ) → ltb s ended ≡ true → columnsIn s (suc c) ≡ 1
-  column-sign s l = rw (l, ne-eqb (suc c) 0 (λ q. omega arith))
+  column-sign s l =
+      let h : s < 6 = omega (arith, ltb→lt s ended (true-T (ltb s ended) l)) in
+      rw (lt-ltb s pairOrEnd h, ne-eqb (suc c) 0 (λ q. omega arith))
 
   pub sign-after : (s : ℕ) → ltb s ended ≡ true → after s (suc c ∷ r) ≡ after signed r
   sign-after s l = ap (λ (x : ℕ). after x r) (step-sign s l)
@@ -184,7 +186,7 @@ module _ (y : ℕ) where
   pub second-run : (s : ℕ) → eqb s colonNext ≡ false → secondCode s (suc (suc y)) ≡ (if eqb (suc (suc y)) 0o77 then free else full)
   second-run s e = rw (ne-eqb (suc (suc y)) 1 (λ q. omega arith), ne-eqb (suc (suc y)) 0 (λ q. omega arith), e)
 
-  second-columns : (s : ℕ) → ltb s ended ≡ false → columnsIn s (suc (suc y)) ≡ three y
+  second-columns : (s : ℕ) → ltb s pairOrEnd ≡ false → columnsIn s (suc (suc y)) ≡ three y
   second-columns s e = rw (e, le-ltb (suc (suc y)) 2 (omega arith))
 
   module _ (r : List ℕ) (few : three y ≤ 64) (s : Sound r) where
@@ -203,7 +205,7 @@ module _ (y : ℕ) where
         (right-run b (64 * k + 0) (64 * k + three y) y (count full r) r (omega arith) (longer-run k y r few)
         (s .at-full (64 * k + three y) (subst (λ (i : ℕ). T (mayEnd (after i r))) q t)))
 
-    counted : (p : ℕ) → ltb p 5 ≡ false → three y + count (step p (suc (suc y))) r ≡ 0 + (columnsIn p (suc (suc y)) + count (step p (suc (suc y))) r)
+    counted : (p : ℕ) → ltb p pairOrEnd ≡ false → three y + count (step p (suc (suc y))) r ≡ 0 + (columnsIn p (suc (suc y)) + count (step p (suc (suc y))) r)
     counted p e = omega (arith, second-columns p e)
 
     runs : Sound (0 ∷ suc (suc y) ∷ r)

@@ -21,4 +21,7 @@ pub mod FormSound
 pub mod FormTaken
 pub mod FormWords
 pub mod OneForm
+pub mod Tops
+pub mod FormTable
+pub mod Saying
 pub mod FormWalk

@@ -116,7 +116,7 @@ taken-line l t = go (map codeOf (trim l)) (well-trim l t) (codes-line (trim l) (
         subst (λ (r : List ℕ). T (mayEnd (after start r))) (sym (b .1)) (taken (b .0) x xs w)
 
 module _ (ws : List ℕ) (e : isText ws ≡ true) where
-  text-words : T (all isWord ws)
+  pub text-words : T (all isWord ws)
   text-words = subst (λ (r : List ℕ). T (all isWord r)) (written-says ws e) (text-isWord (says ws) (says-in-chart ws))
 
   text-full : T (endsFull ws)

@@ -1,9 +1,9 @@
 -- The one right form of a text, code by code (01, "Text": "Only this encoding is accepted"). That it is `isText`: `form-is-text` in proofs/OneForm.antt.
 --   what may follow      full, one, free, signed, start, ended, pairOrEnd, pairNext, colonNext, refused
---   one code             zeroAfter, gapAfter, firstCode, endAfter, secondCode, fillAfter, step, columnsIn
+--   one code             zeroAfter, gapAfter, firstCode, endAfter, secondCode, fillAfter, step, fieldsOf, columnsIn
 --   codes                after, count, mayEnd
 --   words                afterWord, countWord, endsFull, inForm
-use Prim.Native.Nat.{ℕ, suc, _+_}
+use Prim.Native.Nat.{ℕ, zero, suc, _+_, _*_}
 use mathlib.Core.Bool.{Bool, true, _&&_, not}
 use mathlib.Core.List.{List, [], _∷_}
 use lib.Dec.{eqb, ltb, leb}
@@ -79,9 +79,17 @@ step s c =
     else if ltb s refused then secondCode s c
     else refused
 
--- the columns that a code brings
+-- what may follow a code in one number, six bits for each thing ahead of it, the first lowest
+abbrev pub fieldsFrom : ℕ → ℕ → ℕ → ℕ
+fieldsFrom c s zero = 0
+fieldsFrom c s (suc n) = 6 * step s c + 64 * fieldsFrom c (suc s) n
+
+unfoldable pub fieldsOf : ℕ → ℕ
+fieldsOf c = fieldsFrom c 0 10
+
+-- the columns that a code brings, by itself or as the second of a pair
 abbrev pub columnsIn : ℕ → ℕ → ℕ
-columnsIn s c = if ltb s ended then (if eqb c 0 then 0 else 1) else if ltb c 2 then c else suc c
+columnsIn s c = if ltb s pairOrEnd then (if eqb c 0 then 0 else 1) else if ltb c 2 then c else suc c
 
 -- CODES
 abbrev pub after : ℕ → List ℕ → ℕ

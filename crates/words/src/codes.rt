@@ -5,23 +5,16 @@ ghost use Prim.Native.Nat.{ℕ, _-_, _/_, _%_, _^_, _≤_, _<_};
 ghost use lib.ListN.{length, getD, drop};
 ghost use Rattle.words.specs.Text.{wordsOf};
 
-// one more than the largest code, how many codes a word holds, and the place value of each, the last first
+// one more than the largest code, and how many codes a word holds
 pub(crate) const BASE: u64 = 0o100;
 
 pub(crate) const TEN: usize = 10;
 
-const POWERS: [u64; 10] = [
-    1,
-    0o100,
-    0o10000,
-    0o1000000,
-    0o100000000,
-    0o10000000000,
-    0o1000000000000,
-    0o100000000000000,
-    0o10000000000000000,
-    0o1000000000000000000,
-];
+// the place value of a word's first code
+pub(crate) const TOP: u64 = 0o1000000000000000000;
+
+// how many bits a code has
+const BITS: usize = 6;
 
 pub(crate) fn wide(x: u8) -> u64
     ensures { λ r. ⌜ r ≡ x ⌝ }
@@ -33,14 +26,14 @@ pub(crate) fn power(k: usize) -> u64
     requires { ⌜ k < 10 ⌝ }
     ensures { λ r. ⌜ r ≡ 64 ^ k ⌝ }
 {
-    POWERS[k]
+    1 << (BITS * k)
 }
 
 pub(crate) fn code_in(word: u64, place: usize) -> u8
     requires { ⌜ place < 10 ⌝ }
     ensures { λ r. ⌜ r ≡ word / 64 ^ (9 - place) % 64 ⌝ }
 {
-    (word / power(TEN - 1 - place) % BASE) as u8
+    ((word >> (BITS * (TEN - 1 - place))) % BASE) as u8
 }
 
 // Ten codes to a word, zero fill: w has the codes of the word so far, of which there are k.

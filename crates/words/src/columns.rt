@@ -1,7 +1,7 @@
 // Columns of a line: of the set, without trailing blanks, written one after the other.
 ghost use mathlib.Core.Path.{_≡_};
-ghost use mathlib.Core.List.{_++_};
-ghost use Prim.Native.Nat.{_+_, _≤_};
+ghost use mathlib.Core.List.{[], _∷_, _++_};
+ghost use Prim.Native.Nat.{_+_, _≤_, _<_};
 ghost use lib.ListN.{length, take, drop, replicate};
 ghost use Rattle.words.specs.Base.{all};
 ghost use Rattle.words.specs.Display.{inChart};
@@ -34,6 +34,16 @@ pub fn trimmed(line: &[u8]) -> &[u8]
         n -= 1;
     }
     &line[..n]
+}
+
+pub(crate) fn put_column(b: u8, line: &mut [u8], at: usize) -> usize
+    requires { ⌜ at < length (now line) ⌝ }
+    ensures { λ r. ⌜ r ≡ at + 1 ⌝ }
+    ensures { λ r. ⌜ take r (now (line .exit)) ≡ take at (now (line .entry)) ++ (b ∷ []) ⌝ }
+    ensures { λ r. ⌜ drop r (now (line .exit)) ≡ drop r (now (line .entry)) ⌝ }
+{
+    line[at] = b;
+    at + 1
 }
 
 pub(crate) fn put_columns(b: u8, n: usize, line: &mut [u8], at: usize) -> usize

@@ -2,159 +2,160 @@
 ghost use mathlib.Core.Path.{_≡_};
 ghost use mathlib.Core.Bool.{_&&_};
 ghost use lib.Dec.{leb};
-ghost use Prim.Native.Nat.{_+_, _^_, _≤_, _<_};
+ghost use Prim.Native.Nat.{_+_, _*_, _/_, _%_, _^_, _≤_, _<_};
 ghost use Rattle.words.specs.Text.{isText};
-ghost use Rattle.words.specs.Form.{zeroAfter, gapAfter, firstCode, endAfter, secondCode, fillAfter, step, columnsIn, afterWord, countWord, mayEnd, endsFull};
+ghost use Rattle.words.specs.Form.{fieldsOf, step, columnsIn, afterWord, countWord, mayEnd, endsFull};
 use crate::codes::BASE;
 use crate::codes::TEN;
-use crate::display::GAP;
+use crate::codes::TOP;
 
 // the most words and columns of a text
 pub(crate) const WORDS: usize = 16;
 
 pub(crate) const COLUMNS: usize = 80;
 
-// one more than the largest word, and the place value of a word's first code
+// one more than the largest word
 const SIXTY: u64 = 0o100000000000000000000;
 
-const TOP: u64 = 0o1000000000000000000;
+// what may follow, held as six times its number in the definition, which is the place of its field
+const SIGNED: usize = 18;
 
-// the second code of 64 blanks
-const LONGEST: u8 = 0o77;
+const START: usize = 24;
 
-// what may follow: a sign; one blank more, or a sign; a run, or a sign; any of these, or the line's end; the line; fill
-const FULL: u8 = 0;
+const PAIR_NEXT: usize = 42;
 
-const ONE: u8 = 1;
+// The fields of a code: for each thing that may stand ahead of it, the lowest first, six bits that hold what may follow.
+// 0: a colon's or a run's first code, or the line's end
+const ZERO: u64 = 0o66666636366044526060;
 
-const FREE: u8 = 2;
+// 1: a sign's, or a colon's second code
+const FIRST: u64 = 0o66222222662222222222;
 
-const SIGNED: u8 = 3;
+// a blank's code, or the second code of a run
+const BLANK: u64 = 0o66660000661406060066;
 
-const START: u8 = 4;
+// the last code: a sign's, or the second code of 64 blanks
+const LONGEST: u64 = 0o66661414662222222222;
 
-const ENDED: u8 = 5;
+// any other code: a sign's, or the second code of a run
+const OTHER: u64 = 0o66660000662222222222;
 
-// after a 0: a colon, a run or the end; a colon or a run; a colon
-const PAIR_OR_END: u8 = 6;
+// how many codes there are, and places of a field; where a pair's second code is due, the place is in the upper half
+const PLACES: usize = 64;
 
-const PAIR_NEXT: u8 = 7;
+const HALF: usize = 32;
 
-const COLON_NEXT: u8 = 8;
-
-const REFUSED: u8 = 9;
-
-fn zero_after(s: u8) -> u8
-    ensures { λ r. ⌜ r ≡ zeroAfter s ⌝ }
+// The fields of a code. Numbers in a match stand in the program; a table would be written out at each use. Even and odd codes apart: side by side
+// they would be a range, which is a test.
+fn fields_of(c: usize) -> u64
+    requires { ⌜ c < 64 ⌝ }
+    ensures { λ r. ⌜ r ≡ fieldsOf c ⌝ }
 {
-    if s == SIGNED {
-        return PAIR_OR_END;
+    match c {
+        0 => ZERO,
+        1 => FIRST,
+        45 => BLANK,
+        63 => LONGEST,
+        2
+        | 4
+        | 6
+        | 8
+        | 10
+        | 12
+        | 14
+        | 16
+        | 18
+        | 20
+        | 22
+        | 24
+        | 26
+        | 28
+        | 30
+        | 32
+        | 34
+        | 36
+        | 38
+        | 40
+        | 42
+        | 44
+        | 46
+        | 48
+        | 50
+        | 52
+        | 54
+        | 56
+        | 58
+        | 60
+        | 62 => OTHER,
+        3
+        | 5
+        | 7
+        | 9
+        | 11
+        | 13
+        | 15
+        | 17
+        | 19
+        | 21
+        | 23
+        | 25
+        | 27
+        | 29
+        | 31
+        | 33
+        | 35
+        | 37
+        | 39
+        | 41
+        | 43
+        | 47
+        | 49
+        | 51
+        | 53
+        | 55
+        | 57
+        | 59
+        | 61 => OTHER,
+        _ => 0,
     }
-    if s == FREE {
-        return PAIR_NEXT;
-    }
-    COLON_NEXT
 }
 
-fn gap_after(s: u8) -> u8
-    ensures { λ r. ⌜ r ≡ gapAfter s ⌝ }
+fn step(state: usize, c: usize) -> usize
+    requires { ⌜ state % 6 ≡ 0 ⌝ }
+    requires { ⌜ state < 60 ⌝ }
+    requires { ⌜ c < 64 ⌝ }
+    ensures { λ r. ⌜ r ≡ 6 * step (state / 6) c ⌝ }
+    ensures { λ r. ⌜ r < 60 ⌝ }
 {
-    if s == START {
-        return FREE;
-    }
-    if s == FULL {
-        return REFUSED;
-    }
-    if s == ONE {
-        return FULL;
-    }
-    ONE
+    (fields_of(c) >> state) as usize % PLACES
 }
 
-fn first_code(s: u8, c: u8) -> u8
-    ensures { λ r. ⌜ r ≡ firstCode s c ⌝ }
+// One where the code is not 0; where a pair's second code is due, one where it is above 1, and the code itself.
+fn columns_in(state: usize, c: usize) -> usize
+    requires { ⌜ state % 6 ≡ 0 ⌝ }
+    requires { ⌜ state < 60 ⌝ }
+    requires { ⌜ c < 64 ⌝ }
+    ensures { λ r. ⌜ r ≡ columnsIn (state / 6) c ⌝ }
 {
-    if c == 0 {
-        return zero_after(s);
-    }
-    if c == GAP {
-        return gap_after(s);
-    }
-    SIGNED
-}
-
-fn end_after(s: u8) -> u8
-    ensures { λ r. ⌜ r ≡ endAfter s ⌝ }
-{
-    if s == PAIR_OR_END { ENDED } else { REFUSED }
-}
-
-fn second_code(s: u8, c: u8) -> u8
-    ensures { λ r. ⌜ r ≡ secondCode s c ⌝ }
-{
-    if c == 1 {
-        return SIGNED;
-    }
-    if c == 0 {
-        return end_after(s);
-    }
-    if s == COLON_NEXT {
-        return REFUSED;
-    }
-    if c == LONGEST {
-        return FREE;
-    }
-    FULL
-}
-
-fn fill_after(c: u8) -> u8
-    ensures { λ r. ⌜ r ≡ fillAfter c ⌝ }
-{
-    if c == 0 { ENDED } else { REFUSED }
-}
-
-fn step(s: u8, c: u8) -> u8
-    ensures { λ r. ⌜ r ≡ step s c ⌝ }
-{
-    if s < ENDED {
-        return first_code(s, c);
-    }
-    if s == ENDED {
-        return fill_after(c);
-    }
-    if s < REFUSED {
-        return second_code(s, c);
-    }
-    REFUSED
-}
-
-fn columns_in(s: u8, c: u8) -> usize
-    ensures { λ r. ⌜ r ≡ columnsIn s c ⌝ }
-{
-    if s < ENDED {
-        if c == 0 {
-            return 0;
-        }
-        return 1;
-    }
-    if c < 2 {
-        return c as usize;
-    }
-    c as usize + 1
+    let due = state / HALF;
+    (c + PLACES - 1 - due) / PLACES + due * c
 }
 
 // What may follow, and the columns so far.
 struct Walk {
-    state: u8,
+    state: usize,
     columns: usize,
 }
 
 // The ten codes of a word, from the top.
-fn walk_word(word: u64, state: u8, columns: usize) -> Walk
+fn walk_word(word: u64, state: usize, columns: usize) -> Walk
     requires { ⌜ word < 2 ^ 60 ⌝ }
+    requires { ⌜ state % 6 ≡ 0 ⌝ }
+    requires { ⌜ state < 60 ⌝ }
     requires { ⌜ columns ≤ 10240 ⌝ }
-    ensures { λ r. ⌜ r .state ≡ afterWord state word ⌝ }
-    ensures { λ r. ⌜ r .columns ≡ columns + countWord state word ⌝ }
+    ensures { λ r. ⌜ r .state ≡ 6 * afterWord (state / 6) word ⌝ }
+    ensures { λ r. ⌜ r .state < 60 ⌝ }
+    ensures { λ r. ⌜ r .columns ≡ columns + countWord (state / 6) word ⌝ }
     ensures { λ r. ⌜ r .columns ≤ columns + 640 ⌝ }
 {
     let mut w = word;
@@ -162,7 +163,7 @@ fn walk_word(word: u64, state: u8, columns: usize) -> Walk
     let mut n = columns;
     let mut k = 0;
     while k < TEN {
-        let c = (w / TOP) as u8;
+        let c = (w / TOP) as usize;
         n += columns_in(s, c);
         s = step(s, c);
         w = w % TOP * BASE;
@@ -175,13 +176,13 @@ fn walk_word(word: u64, state: u8, columns: usize) -> Walk
 }
 
 // The line's end is there, and it has at most 80 columns.
-fn may_end(s: u8, columns: usize) -> bool
-    ensures { λ r. ⌜ r ≡ (mayEnd s && leb columns 80) ⌝ }
+fn may_end(state: usize, columns: usize) -> bool
+    ensures { λ r. ⌜ r ≡ (mayEnd (state / 6) && leb columns 80) ⌝ }
 {
-    if s < SIGNED {
+    if state < SIGNED {
         return false;
     }
-    if PAIR_OR_END < s {
+    if PAIR_NEXT <= state {
         return false;
     }
     columns <= COLUMNS

@@ -2,23 +2,26 @@
 ghost use mathlib.Core.Path.{_≡_};
 ghost use mathlib.Core.Bool.{true};
 ghost use mathlib.Core.List.{[], _∷_, _++_, map};
-ghost use Prim.Native.Nat.{_+_, _*_, _≤_, _<_};
-ghost use lib.ListN.{length, getD, take, drop, replicate};
+ghost use Prim.Native.Nat.{_+_, _^_, _≤_, _<_};
+ghost use lib.ListN.{length, take, drop};
 ghost use Rattle.words.specs.Base.{all};
-ghost use Rattle.words.specs.Display.{codeOf, inChart, letter};
-ghost use Rattle.words.specs.Text.{shortRun, blanks, sign, squeeze, compress, textWords, compressing, compressInto, compressedNumber, allCodes, columnsOf, says, isText, expanding, expandInto, expandedNumber};
+ghost use Rattle.words.specs.Display.{codeOf, inChart};
+ghost use Rattle.words.specs.Saying.{secondSays, codeSays, aheadAfter, wordSays, wordAhead};
+ghost use Rattle.words.specs.Text.{shortRun, blanks, sign, squeeze, compress, textWords, compressing, compressInto, compressedNumber, says, isText, expanding, expandInto, expandedNumber};
 use crate::Compressed;
 use crate::Expanded;
+use crate::codes::BASE;
 use crate::codes::TEN;
-use crate::codes::code_in;
+use crate::codes::TOP;
 use crate::codes::fill;
 use crate::columns::in_set;
+use crate::columns::put_column;
 use crate::columns::put_columns;
 use crate::columns::trimmed;
 use crate::display::BLANK;
 use crate::display::GAP;
 use crate::display::code_of;
-use crate::display::letter_of;
+use crate::display::letter_in;
 use crate::form::COLUMNS;
 use crate::form::WORDS;
 use crate::form::is_text;
@@ -179,60 +182,93 @@ pub fn compressed_number(c: Compressed) -> u64
     }
 }
 
-// The code at a place of a text, 0 past its end.
-fn code_at(text: &[u64], k: usize) -> u8
-    ensures { λ r. ⌜ r ≡ getD (allCodes (now (text .entry))) k 0 ⌝ }
+// What is ahead of a code: nothing that it belongs to, a 0 whose second code it is, the line's end.
+const ALONE: u8 = 0;
+
+const SECOND: u8 = 1;
+
+const PAST: u8 = 2;
+
+// Where the next column is put, and what is ahead of the next code.
+struct Said {
+    at: usize,
+    ahead: u8,
+}
+
+// A colon or a run of blanks, whichever the second code of a pair says.
+fn say_second(c: usize, line: &mut [u8], at: usize) -> usize
+    requires { ⌜ 0 < c ⌝ }
+    requires { ⌜ c < 64 ⌝ }
+    requires { ⌜ at + length (secondSays c) ≤ length (now line) ⌝ }
+    ensures { λ r. ⌜ r ≡ at + length (secondSays c) ⌝ }
+    ensures { λ r. ⌜ take r (now (line .exit)) ≡ take at (now (line .entry)) ++ secondSays c ⌝ }
+    ensures { λ r. ⌜ drop r (now (line .exit)) ≡ drop r (now (line .entry)) ⌝ }
 {
-    let j = k / TEN;
-    if j < text.len() {
-        code_in(text[j], k % TEN)
-    } else {
-        0
+    if c == 1 {
+        return put_column(COLON, line, at);
+    }
+    put_columns(BLANK, c + 1, line, at)
+}
+
+fn say_code(c: usize, ahead: u8, line: &mut [u8], at: usize) -> Said
+    requires { ⌜ c < 64 ⌝ }
+    requires { ⌜ at + length (codeSays ahead c) ≤ length (now line) ⌝ }
+    ensures { λ r. ⌜ r .at ≡ at + length (codeSays ahead c) ⌝ }
+    ensures { λ r. ⌜ take (r .at) (now (line .exit)) ≡ take at (now (line .entry)) ++ codeSays ahead c ⌝ }
+    ensures { λ r. ⌜ drop (r .at) (now (line .exit)) ≡ drop (r .at) (now (line .entry)) ⌝ }
+    ensures { λ r. ⌜ r .ahead ≡ aheadAfter ahead c ⌝ }
+{
+    if ahead == ALONE {
+        if c == 0 {
+            return Said {
+                at: at,
+                ahead: SECOND,
+            };
+        }
+        return Said {
+            at: put_column(letter_in(c), line, at),
+            ahead: ALONE,
+        };
+    }
+    if ahead != SECOND {
+        return Said {
+            at: at,
+            ahead: PAST,
+        };
+    }
+    if c == 0 {
+        return Said {
+            at: at,
+            ahead: PAST,
+        };
+    }
+    Said {
+        at: say_second(c, line, at),
+        ahead: ALONE,
     }
 }
 
-// Columns of one byte, and how many codes say them. At 0000 the line ends: no columns, and all the codes that are left.
-struct Run {
-    byte: u8,
-    count: usize,
-    codes: usize,
-}
-
-fn run_at(text: &[u64], k: usize) -> Run
-    requires { ⌜ length (now text) ≤ 16 ⌝ }
-    requires { ⌜ k < length (now text) * 10 ⌝ }
-    ensures { λ r. ⌜ 0 < r .codes ⌝ }
-    ensures { λ r. ⌜ k + r .codes ≤ length (now (text .entry)) * 10 ⌝ }
-    ensures { λ r. ⌜ map letter (columnsOf (drop k (allCodes (now (text .entry))))) ≡ replicate (r .count) (r .byte) ++ map letter (columnsOf (drop (k + r .codes) (allCodes (now (text .entry))))) ⌝ }
+// The ten codes of a word, from the top.
+fn say_word(word: u64, ahead: u8, line: &mut [u8], at: usize) -> Said
+    requires { ⌜ word < 2 ^ 60 ⌝ }
+    requires { ⌜ at + length (wordSays ahead word) ≤ length (now line) ⌝ }
+    ensures { λ r. ⌜ r .at ≡ at + length (wordSays ahead word) ⌝ }
+    ensures { λ r. ⌜ take (r .at) (now (line .exit)) ≡ take at (now (line .entry)) ++ wordSays ahead word ⌝ }
+    ensures { λ r. ⌜ drop (r .at) (now (line .exit)) ≡ drop (r .at) (now (line .entry)) ⌝ }
+    ensures { λ r. ⌜ r .ahead ≡ wordAhead ahead word ⌝ }
 {
-    let c = code_at(text, k);
-    if c != 0 {
-        return Run {
-            byte: letter_of(c),
-            count: 1,
-            codes: 1,
-        };
+    let mut w = word;
+    let mut p = ahead;
+    let mut n = at;
+    let mut k = 0;
+    while k < TEN {
+        let said = say_code((w / TOP) as usize, p, line, n);
+        n = said.at;
+        p = said.ahead;
+        w = w % TOP * BASE;
+        k += 1;
     }
-    let y = code_at(text, k + 1);
-    if y == 0 {
-        return Run {
-            byte: BLANK,
-            count: 0,
-            codes: text.len() * TEN - k,
-        };
-    }
-    if y == 1 {
-        return Run {
-            byte: COLON,
-            count: 1,
-            codes: 2,
-        };
-    }
-    Run {
-        byte: BLANK,
-        count: y as usize + 1,
-        codes: 2,
-    }
+    Said { at: n, ahead: p }
 }
 
 // The columns that a text says.
@@ -242,13 +278,14 @@ fn say(text: &[u64], line: &mut [u8]) -> usize
     ensures { λ r. ⌜ r ≡ length (says (now (text .entry))) ⌝ }
     ensures { λ r. ⌜ now (line .exit) ≡ says (now (text .entry)) ++ drop r (now (line .entry)) ⌝ }
 {
-    let n = text.len() * TEN;
     let mut at = 0;
-    let mut k = 0;
-    while k < n {
-        let run = run_at(text, k);
-        at = put_columns(run.byte, run.count, line, at);
-        k += run.codes;
+    let mut ahead = ALONE;
+    let mut i = 0;
+    while i < text.len() {
+        let said = say_word(text[i], ahead, line, at);
+        at = said.at;
+        ahead = said.ahead;
+        i += 1;
     }
     at
 }

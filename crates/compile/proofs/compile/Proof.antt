@@ -3,7 +3,7 @@ use Rattle.compile.proofs.Encoded.{compile-sound, compile-refused}
 use borrow.Author.Needs.{needs}
 use Rattle.compile.proofs.compile.Statement.{statement}
 use Rattle.compile.proofs.compile.Tie as tie
-use Rattle.library.proofs.check.Reads as check-reads
+use Rattle.checks.proofs.check.Reads as check-reads
 
 check-requires : tie.Need-check-requires
 check-requires c κs = search needs

@@ -1,43 +1,76 @@
--- Each turn writes one column more of the justified text.
-use Rattle.compile.proofs.Printing.{front, left-more, left-all}
+-- Each turn writes one column more of the justified text: of the text itself, then blanks.
+use Rattle.compile.proofs.Printing.{Begun, left-copied, left-blank, left-own, left-all}
 use Rattle.words.specs.Names.{leftJustified}
 use lib.ListN.{length}
 use native.Mathlib.Omega.{arith}
-use mathlib.Core.Path.{_≡_, refl, _∙_}
-use Prim.Native.Nat.{_-_, _≤_, _<_}
+use mathlib.Core.Path.{refl, ap, _∙_}
+use Prim.Native.Nat.{ℕ, _-_, _≤_}
 use borrow.Author.Needs.{needs}
 use Rattle.compile.proofs.print.put_left.Statement.{statement}
 use Rattle.compile.proofs.print.put_left.Tie as tie
 
 abbrev Inv-loop : tie.InvT-loop
-Inv-loop text field₀ i₀ field i = (i ≤ length field₀) × ((length field ≡ length field₀) × (field ≡ front field₀ (leftJustified (length field₀) text) i))
+Inv-loop text field₀ n i₀ field i = (i ≤ n) × Begun (length field₀) text field i
 
 abbrev μ-loop : tie.MeasureT-loop
-μ-loop text field₀ i₀ field i = length field₀ - i
+μ-loop text field₀ n i₀ field i = n - i
 
-loop-holds : tie.Need-loop-holds Inv-loop μ-loop
-loop-holds c = let a = c .before .before .args in (search needs, (refl, refl))
+abbrev Inv-loop2 : tie.InvT-loop2
+Inv-loop2 text field₀ n i₀ field i = ((n ≤ i) × (i ≤ length field₀)) × Begun (length field₀) text field i
 
-column-requires : tie.Need-column-requires Inv-loop μ-loop
-column-requires c κs = search needs
+abbrev μ-loop2 : tie.MeasureT-loop2
+μ-loop2 text field₀ n i₀ field i = length field₀ - i
 
-slice-write-field : tie.Need-slice-write-field Inv-loop μ-loop
+least-requires : tie.Need-least-requires Inv-loop μ-loop Inv-loop2 μ-loop2
+least-requires c κs = search needs
+
+loop-holds : tie.Need-loop-holds Inv-loop μ-loop Inv-loop2 μ-loop2
+loop-holds c = (search needs, (refl, refl))
+
+shared-slice-read-field : tie.Need-shared-slice-read-field Inv-loop μ-loop Inv-loop2 μ-loop2
+shared-slice-read-field c = search needs
+
+slice-write-field : tie.Need-slice-write-field Inv-loop μ-loop Inv-loop2 μ-loop2
 slice-write-field c = search needs
 
-add-i : tie.Need-add-i Inv-loop μ-loop
+add-i : tie.Need-add-i Inv-loop μ-loop Inv-loop2 μ-loop2
 add-i c = search needs
 
-loop-less : tie.Need-loop-less Inv-loop μ-loop
+loop-less : tie.Need-loop-less Inv-loop μ-loop Inv-loop2 μ-loop2
 loop-less c = search needs
 
-loop-again : tie.Need-loop-again Inv-loop μ-loop
-loop-again c = let l = c .before .before .loop in let a = c .before .before .before .before .before .args in let h : l .i < length (a .field .now) = omega arith in (search needs, (search needs, rw (l .inv .1 .1, c .column .ensures) (left-more (a .field .now) (a .text .now) (l .i) h)))
+loop-again : tie.Need-loop-again Inv-loop μ-loop Inv-loop2 μ-loop2
+loop-again c =
+    let l = c .before .before .loop in
+    let a = c .before .before .before .before .before .before .args in
+    (search needs, left-copied (length (a .field .now)) (a .text .now) (l .field) (l .i) (l .inv .1) (omega arith) (omega arith))
 
-same-length : tie.Need-same-length Inv-loop μ-loop
+loop2-holds : tie.Need-loop2-holds Inv-loop μ-loop Inv-loop2 μ-loop2
+loop2-holds c = let l = c .before .loop in ((omega arith, omega arith), left-own _ (c .before .before .before .before .before .args .text .now) (l .field) (l .i) (l .inv .1))
+
+slice-write-field-2 : tie.Need-slice-write-field-2 Inv-loop μ-loop Inv-loop2 μ-loop2
+slice-write-field-2 c = search needs
+
+add-i-2 : tie.Need-add-i-2 Inv-loop μ-loop Inv-loop2 μ-loop2
+add-i-2 c = search needs
+
+loop2-less : tie.Need-loop2-less Inv-loop μ-loop Inv-loop2 μ-loop2
+loop2-less c = search needs
+
+loop2-again : tie.Need-loop2-again Inv-loop μ-loop Inv-loop2 μ-loop2
+loop2-again c =
+    let l = c .before .loop2 in
+    let n = c .before .before .before .before .least .ensures .1 .1 (omega arith) in
+    ((omega arith, omega arith), left-blank _ (c .before .before .before .before .before .before .before .args .text .now) (l .field) (l .i) (l .inv .1) (omega arith) (omega (arith, n)))
+
+same-length : tie.Need-same-length Inv-loop μ-loop Inv-loop2 μ-loop2
 same-length c = search needs
 
-returns : tie.Need-returns Inv-loop μ-loop
-returns c = let l = c .before .loop in let a = c .before .before .before .before .args in let e : l .i ≡ length (a .field .now) = omega arith in rw e at (l .inv .1 .1) ∙ left-all (a .field .now) (a .text .now)
+returns : tie.Need-returns Inv-loop μ-loop Inv-loop2 μ-loop2
+returns c =
+    let l = c .before .loop2 in
+    let a = c .before .before .before .before .before .before .before .args in
+    left-all _ (a .text .now) (l .field) (l .i) (l .inv .1) (omega arith) ∙ ap (λ (n : ℕ). leftJustified n (a .text .now)) (c .before .before .before .loop .inv .1 .0)
 
 pub put-left-spec : {M : Type 1} → statement M
 put-left-spec =
@@ -45,11 +78,19 @@ put-left-spec =
     (tie.spec
     Inv-loop
     μ-loop
+    Inv-loop2
+    μ-loop2
+    least-requires
     loop-holds
-    column-requires
+    shared-slice-read-field
     slice-write-field
     add-i
     loop-less
     loop-again
+    loop2-holds
+    slice-write-field-2
+    add-i-2
+    loop2-less
+    loop2-again
     same-length
     returns)

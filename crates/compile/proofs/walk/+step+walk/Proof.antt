@@ -8,7 +8,7 @@ use lib.Seq.{length-take-le}
 use Rattle.image.proofs.Standing.{line-taken}
 use Rattle.compile.specs.TableView.{shownOf, shownIn, tableView}
 use Rattle.compile.specs.Steps.{runAt}
-use Rattle.compile.proofs.Stepping.{visit-passed, visit-text, visit-stopped, visit-opened, visit-counted, opened-some, run-past, run-end, run-on, run-halt}
+use Rattle.compile.proofs.Stepping.{visit-passed, visit-text, visit-stopped, visit-opened, visit-starless, opened-some, run-past, run-end, run-on, run-halt}
 use borrow.Author.Needs.{needs}
 use borrow.Fn.Kinds.{In}
 use borrow.Fn.PlainCycle.{Measures, is, falls, and}
@@ -19,11 +19,11 @@ use Rattle.compile.proofs.walk.walk.Reads as walk
 use Rattle.compile.proofs.walk.walk.Kinds as walk-kinds
 use Rattle.compile.proofs.walk.+step+walk.Lts-walk as walk-lts
 use Rattle.compile.proofs.calls.asks.Reads as asks-reads
-use Rattle.compile.proofs.walk.only_counted.Reads as only-counted-reads
 use Rattle.compile.proofs.walk.put.Reads as put-reads
+use Rattle.compile.proofs.walk.put_text.Reads as put-text-reads
 use Rattle.image.proofs.line_of.Reads as line-of-reads
 use Rattle.image.proofs.see.Reads as see-reads
-use Rattle.image.proofs.word_at.Reads as word-at-reads
+use Rattle.image.proofs.star_at.Reads as star-at-reads
 use Rattle.compile.proofs.walk.+step+walk.{statement}
 use Rattle.compile.proofs.walk.+step+walk.Tie.{close}
 
@@ -46,420 +46,372 @@ abbrev walk-below : ℕ → In 3 walk-kinds.ps
 walk-below t = and 3 walk-kinds.ps (falls 3 walk-kinds.ps _<_ μ-walk t) walk.Pre
 
 step-returns : (t : ℕ) → step-lts.Need-returns (
-  only-counted-reads.Asked,
-  only-counted-reads.Learnt,
-  put-reads.Asked,
-  put-reads.Learnt,
+  star-at-reads.Asked,
+  star-at-reads.Learnt,
+  put-text-reads.Asked,
+  put-text-reads.Learnt,
   line-of-reads.Asked,
   line-of-reads.Learnt,
   asks-reads.Asked,
   asks-reads.Learnt,
-  word-at-reads.Asked,
-  word-at-reads.Learnt,
+  put-reads.Asked,
+  put-reads.Learnt,
   walk-below t,
   walk.Post,
 ) (step-at t) step.Post
 step-returns t c = let a = c .before .before .before .before .before .args in sym (visit-passed (a .writes) (a .image .now) (a .table .now) (a .depth) (shownOf (a .image .now) (a .c)) (a .lines) (a .calls) (a .out .now) (a .c .active) (not-true _ (c .if1 .taken)))
 
-step-only-counted-requires : (t : ℕ) → step-lts.Need-only-counted-requires (
-  only-counted-reads.Asked,
-  only-counted-reads.Learnt,
-  put-reads.Asked,
-  put-reads.Learnt,
+step-star-at-requires : (t : ℕ) → step-lts.Need-star-at-requires (
+  star-at-reads.Asked,
+  star-at-reads.Learnt,
+  put-text-reads.Asked,
+  put-text-reads.Learnt,
   line-of-reads.Asked,
   line-of-reads.Learnt,
   asks-reads.Asked,
   asks-reads.Learnt,
-  word-at-reads.Asked,
-  word-at-reads.Learnt,
+  put-reads.Asked,
+  put-reads.Learnt,
   walk-below t,
   walk.Post,
 ) (step-at t) step.Post
-step-only-counted-requires t c κs = search needs
+step-star-at-requires t c κs = search needs
 
-step-slice-aggregate-put : (t : ℕ) → step-lts.Need-slice-aggregate-put (
-  only-counted-reads.Asked,
-  only-counted-reads.Learnt,
-  put-reads.Asked,
-  put-reads.Learnt,
+step-put-text-requires : (t : ℕ) → step-lts.Need-put-text-requires (
+  star-at-reads.Asked,
+  star-at-reads.Learnt,
+  put-text-reads.Asked,
+  put-text-reads.Learnt,
   line-of-reads.Asked,
   line-of-reads.Learnt,
   asks-reads.Asked,
   asks-reads.Learnt,
-  word-at-reads.Asked,
-  word-at-reads.Learnt,
-  walk-below t,
-  walk.Post,
-) (step-at t) step.Post
-step-slice-aggregate-put t c = search needs
-
-step-put-requires : (t : ℕ) → step-lts.Need-put-requires (
-  only-counted-reads.Asked,
-  only-counted-reads.Learnt,
   put-reads.Asked,
   put-reads.Learnt,
-  line-of-reads.Asked,
-  line-of-reads.Learnt,
-  asks-reads.Asked,
-  asks-reads.Learnt,
-  word-at-reads.Asked,
-  word-at-reads.Learnt,
   walk-below t,
   walk.Post,
 ) (step-at t) step.Post
-step-put-requires t c κs = search needs
+step-put-text-requires t c κs = search needs
 
 step-same-length : (t : ℕ) → step-lts.Need-same-length (
-  only-counted-reads.Asked,
-  only-counted-reads.Learnt,
-  put-reads.Asked,
-  put-reads.Learnt,
+  star-at-reads.Asked,
+  star-at-reads.Learnt,
+  put-text-reads.Asked,
+  put-text-reads.Learnt,
   line-of-reads.Asked,
   line-of-reads.Learnt,
   asks-reads.Asked,
   asks-reads.Learnt,
-  word-at-reads.Asked,
-  word-at-reads.Learnt,
+  put-reads.Asked,
+  put-reads.Learnt,
   walk-below t,
   walk.Post,
 ) (step-at t) step.Post
 step-same-length t c = search needs
 
 step-returns-2 : (t : ℕ) → step-lts.Need-returns-2 (
-  only-counted-reads.Asked,
-  only-counted-reads.Learnt,
-  put-reads.Asked,
-  put-reads.Learnt,
+  star-at-reads.Asked,
+  star-at-reads.Learnt,
+  put-text-reads.Asked,
+  put-text-reads.Learnt,
   line-of-reads.Asked,
   line-of-reads.Learnt,
   asks-reads.Asked,
   asks-reads.Learnt,
-  word-at-reads.Asked,
-  word-at-reads.Learnt,
+  put-reads.Asked,
+  put-reads.Learnt,
   walk-below t,
   walk.Post,
 ) (step-at t) step.Post
-step-returns-2 t c = let a = c .before .before .before .before .before .before .before .before .before .before .before .before .args in c .before .before .put .ensures ∙ visit-counted (a .writes) (a .image .now) (a .table .now) (a .depth) (a .c) (a .lines) (a .calls) (a .out .now) (not-false _ (c .before .before .before .before .before .before .before .if1 .left)) _ (c .before .before .before .before .before .before .only-counted .ensures) (c .before .before .before .before .before .if2 .taken) _ _
+step-returns-2 t c = let a = c .before .before .before .before .before .before .before .before .before .before .before .args in visit-starless (a .writes) (a .image .now) (a .table .now) (a .depth) (a .c) (a .lines) (a .calls) (a .out .now) (not-false _ (c .before .before .before .before .before .before .if1 .left)) (sym (c .before .before .before .before .before .star-at .ensures) ∙ not-true _ (c .before .before .before .before .if2 .taken)) _ (c .before .before .put-text .ensures)
 
 step-line-of-requires : (t : ℕ) → step-lts.Need-line-of-requires (
-  only-counted-reads.Asked,
-  only-counted-reads.Learnt,
-  put-reads.Asked,
-  put-reads.Learnt,
+  star-at-reads.Asked,
+  star-at-reads.Learnt,
+  put-text-reads.Asked,
+  put-text-reads.Learnt,
   line-of-reads.Asked,
   line-of-reads.Learnt,
   asks-reads.Asked,
   asks-reads.Learnt,
-  word-at-reads.Asked,
-  word-at-reads.Learnt,
+  put-reads.Asked,
+  put-reads.Learnt,
   walk-below t,
   walk.Post,
 ) (step-at t) step.Post
 step-line-of-requires t c κs = search needs
 
 step-array-share-prefix-line : (t : ℕ) → step-lts.Need-array-share-prefix-line (
-  only-counted-reads.Asked,
-  only-counted-reads.Learnt,
-  put-reads.Asked,
-  put-reads.Learnt,
+  star-at-reads.Asked,
+  star-at-reads.Learnt,
+  put-text-reads.Asked,
+  put-text-reads.Learnt,
   line-of-reads.Asked,
   line-of-reads.Learnt,
   asks-reads.Asked,
   asks-reads.Learnt,
-  word-at-reads.Asked,
-  word-at-reads.Learnt,
+  put-reads.Asked,
+  put-reads.Learnt,
   walk-below t,
   walk.Post,
 ) (step-at t) step.Post
 step-array-share-prefix-line t c = c .line-of .ensures .0
 
 step-slice-aggregate-asks : (t : ℕ) → step-lts.Need-slice-aggregate-asks (
-  only-counted-reads.Asked,
-  only-counted-reads.Learnt,
-  put-reads.Asked,
-  put-reads.Learnt,
+  star-at-reads.Asked,
+  star-at-reads.Learnt,
+  put-text-reads.Asked,
+  put-text-reads.Learnt,
   line-of-reads.Asked,
   line-of-reads.Learnt,
   asks-reads.Asked,
   asks-reads.Learnt,
-  word-at-reads.Asked,
-  word-at-reads.Learnt,
+  put-reads.Asked,
+  put-reads.Learnt,
   walk-below t,
   walk.Post,
 ) (step-at t) step.Post
 step-slice-aggregate-asks t c = sym (length-take-le (c .before .line-of .result) (c .before .line-of .last .1 .1 .1 .0) (c .before .line-of .ensures .0))
 
 step-asks-requires : (t : ℕ) → step-lts.Need-asks-requires (
-  only-counted-reads.Asked,
-  only-counted-reads.Learnt,
-  put-reads.Asked,
-  put-reads.Learnt,
+  star-at-reads.Asked,
+  star-at-reads.Learnt,
+  put-text-reads.Asked,
+  put-text-reads.Learnt,
   line-of-reads.Asked,
   line-of-reads.Learnt,
   asks-reads.Asked,
   asks-reads.Learnt,
-  word-at-reads.Asked,
-  word-at-reads.Learnt,
+  put-reads.Asked,
+  put-reads.Learnt,
   walk-below t,
   walk.Post,
 ) (step-at t) step.Post
 step-asks-requires t c κs = search needs
 
 step-enum-told : (t : ℕ) → step-lts.Need-enum-told (
-  only-counted-reads.Asked,
-  only-counted-reads.Learnt,
-  put-reads.Asked,
-  put-reads.Learnt,
+  star-at-reads.Asked,
+  star-at-reads.Learnt,
+  put-text-reads.Asked,
+  put-text-reads.Learnt,
   line-of-reads.Asked,
   line-of-reads.Learnt,
   asks-reads.Asked,
   asks-reads.Learnt,
-  word-at-reads.Asked,
-  word-at-reads.Learnt,
+  put-reads.Asked,
+  put-reads.Learnt,
   walk-below t,
   walk.Post,
 ) (step-at t) step.Post
 step-enum-told t c = search needs
 
-step-add-word-at : (t : ℕ) → step-lts.Need-add-word-at (
-  only-counted-reads.Asked,
-  only-counted-reads.Learnt,
-  put-reads.Asked,
-  put-reads.Learnt,
-  line-of-reads.Asked,
-  line-of-reads.Learnt,
-  asks-reads.Asked,
-  asks-reads.Learnt,
-  word-at-reads.Asked,
-  word-at-reads.Learnt,
-  walk-below t,
-  walk.Post,
-) (step-at t) step.Post
-step-add-word-at t c = search needs
-
-step-word-at-requires : (t : ℕ) → step-lts.Need-word-at-requires (
-  only-counted-reads.Asked,
-  only-counted-reads.Learnt,
-  put-reads.Asked,
-  put-reads.Learnt,
-  line-of-reads.Asked,
-  line-of-reads.Learnt,
-  asks-reads.Asked,
-  asks-reads.Learnt,
-  word-at-reads.Asked,
-  word-at-reads.Learnt,
-  walk-below t,
-  walk.Post,
-) (step-at t) step.Post
-step-word-at-requires t c κs = search needs
-
 step-array-share-prefix-line-2 : (t : ℕ) → step-lts.Need-array-share-prefix-line-2 (
-  only-counted-reads.Asked,
-  only-counted-reads.Learnt,
-  put-reads.Asked,
-  put-reads.Learnt,
+  star-at-reads.Asked,
+  star-at-reads.Learnt,
+  put-text-reads.Asked,
+  put-text-reads.Learnt,
   line-of-reads.Asked,
   line-of-reads.Learnt,
   asks-reads.Asked,
   asks-reads.Learnt,
-  word-at-reads.Asked,
-  word-at-reads.Learnt,
+  put-reads.Asked,
+  put-reads.Learnt,
   walk-below t,
   walk.Post,
 ) (step-at t) step.Post
-step-array-share-prefix-line-2 t c = c .before .before .before .before .before .line-of .ensures .0
+step-array-share-prefix-line-2 t c = c .before .before .before .before .line-of .ensures .0
 
-step-slice-aggregate-put-2 : (t : ℕ) → step-lts.Need-slice-aggregate-put-2 (
-  only-counted-reads.Asked,
-  only-counted-reads.Learnt,
-  put-reads.Asked,
-  put-reads.Learnt,
+step-slice-aggregate-put : (t : ℕ) → step-lts.Need-slice-aggregate-put (
+  star-at-reads.Asked,
+  star-at-reads.Learnt,
+  put-text-reads.Asked,
+  put-text-reads.Learnt,
   line-of-reads.Asked,
   line-of-reads.Learnt,
   asks-reads.Asked,
   asks-reads.Learnt,
-  word-at-reads.Asked,
-  word-at-reads.Learnt,
+  put-reads.Asked,
+  put-reads.Learnt,
   walk-below t,
   walk.Post,
 ) (step-at t) step.Post
-step-slice-aggregate-put-2 t c = sym (length-take-le (c .before .before .before .before .before .before .line-of .result) (c .before .before .before .before .before .before .line-of .last .1 .1 .1 .0) (c .before .before .before .before .before .before .line-of .ensures .0))
+step-slice-aggregate-put t c = sym (length-take-le (c .before .before .before .before .before .line-of .result) (c .before .before .before .before .before .line-of .last .1 .1 .1 .0) (c .before .before .before .before .before .line-of .ensures .0))
 
-step-put-requires-2 : (t : ℕ) → step-lts.Need-put-requires-2 (
-  only-counted-reads.Asked,
-  only-counted-reads.Learnt,
-  put-reads.Asked,
-  put-reads.Learnt,
+step-put-requires : (t : ℕ) → step-lts.Need-put-requires (
+  star-at-reads.Asked,
+  star-at-reads.Learnt,
+  put-text-reads.Asked,
+  put-text-reads.Learnt,
   line-of-reads.Asked,
   line-of-reads.Learnt,
   asks-reads.Asked,
   asks-reads.Learnt,
-  word-at-reads.Asked,
-  word-at-reads.Learnt,
+  put-reads.Asked,
+  put-reads.Learnt,
   walk-below t,
   walk.Post,
 ) (step-at t) step.Post
-step-put-requires-2 t c κs = search needs
+step-put-requires t c κs = search needs
 
 step-enum-known-k : (t : ℕ) → step-lts.Need-enum-known-k (
-  only-counted-reads.Asked,
-  only-counted-reads.Learnt,
-  put-reads.Asked,
-  put-reads.Learnt,
+  star-at-reads.Asked,
+  star-at-reads.Learnt,
+  put-text-reads.Asked,
+  put-text-reads.Learnt,
   line-of-reads.Asked,
   line-of-reads.Learnt,
   asks-reads.Asked,
   asks-reads.Learnt,
-  word-at-reads.Asked,
-  word-at-reads.Learnt,
+  put-reads.Asked,
+  put-reads.Learnt,
   walk-below t,
   walk.Post,
 ) (step-at t) step.Post
 step-enum-known-k t c = search needs
 
 step-enum-known-from : (t : ℕ) → step-lts.Need-enum-known-from (
-  only-counted-reads.Asked,
-  only-counted-reads.Learnt,
-  put-reads.Asked,
-  put-reads.Learnt,
+  star-at-reads.Asked,
+  star-at-reads.Learnt,
+  put-text-reads.Asked,
+  put-text-reads.Learnt,
   line-of-reads.Asked,
   line-of-reads.Learnt,
   asks-reads.Asked,
   asks-reads.Learnt,
-  word-at-reads.Asked,
-  word-at-reads.Learnt,
+  put-reads.Asked,
+  put-reads.Learnt,
   walk-below t,
   walk.Post,
 ) (step-at t) step.Post
 step-enum-known-from t c = search needs
 
 step-sub-walk : (t : ℕ) → step-lts.Need-sub-walk (
-  only-counted-reads.Asked,
-  only-counted-reads.Learnt,
-  put-reads.Asked,
-  put-reads.Learnt,
+  star-at-reads.Asked,
+  star-at-reads.Learnt,
+  put-text-reads.Asked,
+  put-text-reads.Learnt,
   line-of-reads.Asked,
   line-of-reads.Learnt,
   asks-reads.Asked,
   asks-reads.Learnt,
-  word-at-reads.Asked,
-  word-at-reads.Learnt,
+  put-reads.Asked,
+  put-reads.Learnt,
   walk-below t,
   walk.Post,
 ) (step-at t) step.Post
-step-sub-walk t c = let a = c .before .before .before .before .before .before .before .before .before .before .before .before .before .before .args in let z = opened-some (a .table .now) _ (a .depth) (a .calls) _ _ (sym (c .before .before .before .asks .ensures) ∙ c .before .from .given .1) in omega (arith, z .0)
+step-sub-walk t c = let a = c .before .before .before .before .before .before .before .before .before .before .before .before .before .before .args in let z = opened-some (a .table .now) _ (a .depth) (a .calls) _ _ _ (c .before .before .before .asks .ensures) (c .before .from .given .1) in omega (arith, z .0)
 
 step-add-walk : (t : ℕ) → step-lts.Need-add-walk (
-  only-counted-reads.Asked,
-  only-counted-reads.Learnt,
-  put-reads.Asked,
-  put-reads.Learnt,
+  star-at-reads.Asked,
+  star-at-reads.Learnt,
+  put-text-reads.Asked,
+  put-text-reads.Learnt,
   line-of-reads.Asked,
   line-of-reads.Learnt,
   asks-reads.Asked,
   asks-reads.Learnt,
-  word-at-reads.Asked,
-  word-at-reads.Learnt,
+  put-reads.Asked,
+  put-reads.Learnt,
   walk-below t,
   walk.Post,
 ) (step-at t) step.Post
-step-add-walk t c = let a = c .before .before .before .before .before .before .before .before .before .before .before .before .before .before .before .args in let z = opened-some (a .table .now) _ (a .depth) (a .calls) _ _ (sym (c .before .before .before .before .asks .ensures) ∙ c .before .before .from .given .1) in omega (arith, z .1)
+step-add-walk t c = let a = c .before .before .before .before .before .before .before .before .before .before .before .before .before .before .before .args in let z = opened-some (a .table .now) _ (a .depth) (a .calls) _ _ _ (c .before .before .before .before .asks .ensures) (c .before .before .from .given .1) in omega (arith, z .1)
 
 step-walk-requires : (t : ℕ) → step-lts.Need-walk-requires (
-  only-counted-reads.Asked,
-  only-counted-reads.Learnt,
-  put-reads.Asked,
-  put-reads.Learnt,
+  star-at-reads.Asked,
+  star-at-reads.Learnt,
+  put-text-reads.Asked,
+  put-text-reads.Learnt,
   line-of-reads.Asked,
   line-of-reads.Learnt,
   asks-reads.Asked,
   asks-reads.Learnt,
-  word-at-reads.Asked,
-  word-at-reads.Learnt,
+  put-reads.Asked,
+  put-reads.Learnt,
   walk-below t,
   walk.Post,
 ) (step-at t) step.Post
-step-walk-requires t c κs = let a = c .before .before .before .before .before .before .before .before .before .before .before .before .before .before .before .args in let e : a .depth + a .depth ≡ t = c .before .before .before .before .before .before .before .before .before .before .before .before .before .before .before .pre .0 in let z = opened-some (a .table .now) _ (a .depth) (a .calls) _ _ (sym (c .before .before .before .before .asks .ensures) ∙ c .before .before .from .given .1) in let f : a .depth - 1 + (a .depth - 1) + 1 < t = omega (arith, z .0) in (f, tt)
+step-walk-requires t c κs = let a = c .before .before .before .before .before .before .before .before .before .before .before .before .before .before .before .args in let e : a .depth + a .depth ≡ t = c .before .before .before .before .before .before .before .before .before .before .before .before .before .before .before .pre .0 in let z = opened-some (a .table .now) _ (a .depth) (a .calls) _ _ _ (c .before .before .before .before .asks .ensures) (c .before .before .from .given .1) in let f : a .depth - 1 + (a .depth - 1) + 1 < t = omega (arith, z .0) in (f, tt)
 
 step-same-length-2 : (t : ℕ) → step-lts.Need-same-length-2 (
-  only-counted-reads.Asked,
-  only-counted-reads.Learnt,
-  put-reads.Asked,
-  put-reads.Learnt,
+  star-at-reads.Asked,
+  star-at-reads.Learnt,
+  put-text-reads.Asked,
+  put-text-reads.Learnt,
   line-of-reads.Asked,
   line-of-reads.Learnt,
   asks-reads.Asked,
   asks-reads.Learnt,
-  word-at-reads.Asked,
-  word-at-reads.Learnt,
+  put-reads.Asked,
+  put-reads.Learnt,
   walk-below t,
   walk.Post,
 ) (step-at t) step.Post
 step-same-length-2 t c = search needs
 
 step-returns-3 : (t : ℕ) → step-lts.Need-returns-3 (
-  only-counted-reads.Asked,
-  only-counted-reads.Learnt,
-  put-reads.Asked,
-  put-reads.Learnt,
+  star-at-reads.Asked,
+  star-at-reads.Learnt,
+  put-text-reads.Asked,
+  put-text-reads.Learnt,
   line-of-reads.Asked,
   line-of-reads.Learnt,
   asks-reads.Asked,
   asks-reads.Learnt,
-  word-at-reads.Asked,
-  word-at-reads.Learnt,
+  put-reads.Asked,
+  put-reads.Learnt,
   walk-below t,
   walk.Post,
 ) (step-at t) step.Post
-step-returns-3 t c = let a = c .before .before .before .before .before .before .before .before .before .before .before .before .before .before .before .before .before .before .before .args in c .before .before .put2 .ensures ∙ visit-text (a .writes) (a .image .now) (a .table .now) (a .depth) (a .c) (a .lines) (a .calls) (a .out .now) (not-false _ (c .before .before .before .before .before .before .before .before .before .before .before .before .before .before .if1 .left)) _ (line-taken (a .image .now) _ (c .before .before .before .before .before .before .before .before .before .before .line-of .last .1 .1 .1 .0) (a .c .text) (a .c .next) (c .before .before .before .before .before .before .before .before .before .before .line-of .result) (c .before .before .before .before .before .before .before .before .before .before .line-of .ensures .1 .0) (c .before .before .before .before .before .before .before .before .before .before .line-of .ensures .1 .1)) _ (c .before .before .before .before .before .before .before .before .asks .ensures) (c .before .before .before .before .before .before .enum-told .given .1) _ (c .before .before .before .before .before .word-at .ensures)
+step-returns-3 t c = let a = c .before .before .before .before .before .before .before .before .before .before .before .before .before .before .before .before .before .before .args in visit-text (a .writes) (a .image .now) (a .table .now) (a .depth) (a .c) (a .lines) (a .calls) (a .out .now) (not-false _ (c .before .before .before .before .before .before .before .before .before .before .before .before .before .if1 .left)) _ (line-taken (a .image .now) _ (c .before .before .before .before .before .before .before .before .before .line-of .last .1 .1 .1 .0) (a .c .text) (a .c .next) (c .before .before .before .before .before .before .before .before .before .line-of .result) (c .before .before .before .before .before .before .before .before .before .line-of .ensures .1 .0) (c .before .before .before .before .before .before .before .before .before .line-of .ensures .1 .1)) _ (c .before .before .before .before .before .before .before .asks .ensures) (c .before .before .before .before .before .enum-told .given .1) _ (c .before .before .put .ensures)
 
 step-returns-4 : (t : ℕ) → step-lts.Need-returns-4 (
-  only-counted-reads.Asked,
-  only-counted-reads.Learnt,
-  put-reads.Asked,
-  put-reads.Learnt,
+  star-at-reads.Asked,
+  star-at-reads.Learnt,
+  put-text-reads.Asked,
+  put-text-reads.Learnt,
   line-of-reads.Asked,
   line-of-reads.Learnt,
   asks-reads.Asked,
   asks-reads.Learnt,
-  word-at-reads.Asked,
-  word-at-reads.Learnt,
+  put-reads.Asked,
+  put-reads.Learnt,
   walk-below t,
   walk.Post,
 ) (step-at t) step.Post
 step-returns-4 t c = let a = c .before .before .before .before .before .before .before .before .before .before .before .before .before .before .args in visit-stopped (a .writes) (a .image .now) (a .table .now) (a .depth) (a .c) (a .lines) (a .calls) (a .out .now) (not-false _ (c .before .before .before .before .before .before .before .before .before .if1 .left)) _ (line-taken (a .image .now) _ (c .before .before .before .before .before .line-of .last .1 .1 .1 .0) (a .c .text) (a .c .next) (c .before .before .before .before .before .line-of .result) (c .before .before .before .before .before .line-of .ensures .1 .0) (c .before .before .before .before .before .line-of .ensures .1 .1)) _ (c .before .before .before .asks .ensures) _ (c .before .k .given .1)
 
 step-same-length-3 : (t : ℕ) → step-lts.Need-same-length-3 (
-  only-counted-reads.Asked,
-  only-counted-reads.Learnt,
-  put-reads.Asked,
-  put-reads.Learnt,
+  star-at-reads.Asked,
+  star-at-reads.Learnt,
+  put-text-reads.Asked,
+  put-text-reads.Learnt,
   line-of-reads.Asked,
   line-of-reads.Learnt,
   asks-reads.Asked,
   asks-reads.Learnt,
-  word-at-reads.Asked,
-  word-at-reads.Learnt,
+  put-reads.Asked,
+  put-reads.Learnt,
   walk-below t,
   walk.Post,
 ) (step-at t) step.Post
 step-same-length-3 t c = search needs
 
 step-returns-5 : (t : ℕ) → step-lts.Need-returns-5 (
-  only-counted-reads.Asked,
-  only-counted-reads.Learnt,
-  put-reads.Asked,
-  put-reads.Learnt,
+  star-at-reads.Asked,
+  star-at-reads.Learnt,
+  put-text-reads.Asked,
+  put-text-reads.Learnt,
   line-of-reads.Asked,
   line-of-reads.Learnt,
   asks-reads.Asked,
   asks-reads.Learnt,
-  word-at-reads.Asked,
-  word-at-reads.Learnt,
+  put-reads.Asked,
+  put-reads.Learnt,
   walk-below t,
   walk.Post,
 ) (step-at t) step.Post
-step-returns-5 t c = let a = c .before .before .before .before .before .before .before .before .before .before .before .before .before .before .before .before .before .before .args in c .before .before .walk .ensures ∙ visit-opened (a .writes) (a .image .now) (a .table .now) (a .depth) (a .c) (a .lines) (a .calls) (a .out .now) (not-false _ (c .before .before .before .before .before .before .before .before .before .before .before .before .before .if1 .left)) _ (line-taken (a .image .now) _ (c .before .before .before .before .before .before .before .before .before .line-of .last .1 .1 .1 .0) (a .c .text) (a .c .next) (c .before .before .before .before .before .before .before .before .before .line-of .result) (c .before .before .before .before .before .before .before .before .before .line-of .ensures .1 .0) (c .before .before .before .before .before .before .before .before .before .line-of .ensures .1 .1)) _ (c .before .before .before .before .before .before .before .asks .ensures) _ _ (c .before .before .before .before .before .from .given .1)
+step-returns-5 t c = let a = c .before .before .before .before .before .before .before .before .before .before .before .before .before .before .before .before .before .before .args in visit-opened (a .writes) (a .image .now) (a .table .now) (a .depth) (a .c) (a .lines) (a .calls) (a .out .now) (not-false _ (c .before .before .before .before .before .before .before .before .before .before .before .before .before .if1 .left)) _ (line-taken (a .image .now) _ (c .before .before .before .before .before .before .before .before .before .line-of .last .1 .1 .1 .0) (a .c .text) (a .c .next) (c .before .before .before .before .before .before .before .before .before .line-of .result) (c .before .before .before .before .before .before .before .before .before .line-of .ensures .1 .0) (c .before .before .before .before .before .before .before .before .before .line-of .ensures .1 .1)) _ (c .before .before .before .before .before .before .before .asks .ensures) _ _ (c .before .before .before .before .before .from .given .1) _ (c .before .before .walk .ensures)
 
 abbrev walk-Inv-loop : walk-lts.InvT-loop
 walk-Inv-loop image table from to depth writes out₀ lines calls at₀ l₀ n₀ out at l n = (length out ≡ length out₀) × (runAt writes (tableView image table) depth (shownIn image from to) lines calls out₀ ≡ runAt writes (tableView image table) depth (shownIn image at to) l n out)
@@ -573,25 +525,24 @@ walk-returns-3 t c = let l = c .before .loop in let a = c .before .before .befor
 
 pub +step+walk-spec : {M : Type 1} → statement M
 +step+walk-spec = close μ-step μ-walk (λ t. step-lts.spec (
-  only-counted-reads.Asked,
-  only-counted-reads.Learnt,
-  put-reads.Asked,
-  put-reads.Learnt,
+  star-at-reads.Asked,
+  star-at-reads.Learnt,
+  put-text-reads.Asked,
+  put-text-reads.Learnt,
   line-of-reads.Asked,
   line-of-reads.Learnt,
   asks-reads.Asked,
   asks-reads.Learnt,
-  word-at-reads.Asked,
-  word-at-reads.Learnt,
+  put-reads.Asked,
+  put-reads.Learnt,
   walk-below t,
   walk.Post,
 )
     (step-at t)
     step.Post
     (step-returns t)
-    (step-only-counted-requires t)
-    (step-slice-aggregate-put t)
-    (step-put-requires t)
+    (step-star-at-requires t)
+    (step-put-text-requires t)
     (step-same-length t)
     (step-returns-2 t)
     (step-line-of-requires t)
@@ -599,11 +550,9 @@ pub +step+walk-spec : {M : Type 1} → statement M
     (step-slice-aggregate-asks t)
     (step-asks-requires t)
     (step-enum-told t)
-    (step-add-word-at t)
-    (step-word-at-requires t)
     (step-array-share-prefix-line-2 t)
-    (step-slice-aggregate-put-2 t)
-    (step-put-requires-2 t)
+    (step-slice-aggregate-put t)
+    (step-put-requires t)
     (step-enum-known-k t)
     (step-enum-known-from t)
     (step-sub-walk t)

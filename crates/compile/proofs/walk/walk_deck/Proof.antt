@@ -1,7 +1,6 @@
 -- A common deck is passed over, any other is walked with all levels left.
 use Rattle.compile.proofs.Decking.{deck-common, deck-normal}
 use Rattle.compile.specs.TableView.{tableView}
-use mathlib.Core.Path.{_∙_}
 use borrow.Author.Needs.{needs}
 use Rattle.compile.proofs.walk.walk_deck.Statement.{statement}
 use Rattle.compile.proofs.walk.walk_deck.Tie as tie
@@ -43,7 +42,7 @@ same-length : tie.Need-same-length
 same-length c = search needs
 
 returns-2 : tie.Need-returns-2
-returns-2 c = let a = c .before .before .before .before .before .before .before .before .before .before .before .args in c .before .before .walk .ensures ∙ deck-normal (a .writes) (tableView (a .image .now) (a .table .now)) (a .image .now) (a .table .now) (a .row) (a .lines) (a .calls) (a .out .now) (c .before .before .before .before .before .before .if1 .left)
+returns-2 c = let a = c .before .before .before .before .before .before .before .before .before .before .before .args in deck-normal (a .writes) (tableView (a .image .now) (a .table .now)) (a .image .now) (a .table .now) (a .row) (a .lines) (a .calls) (a .out .now) (c .before .before .before .before .before .before .if1 .left) _ (c .before .before .walk .ensures)
 
 pub walk-deck-spec : {M : Type 1} → statement M
 walk-deck-spec =

@@ -10,10 +10,10 @@ use Rattle.image.proofs.flags.act_down.Statement.{statement}
 use Rattle.image.proofs.flags.act_down.Tie as tie
 
 abbrev Inv-loop : tie.InvT-loop
-Inv-loop directory cards first link flags₀ n₀ flags n = (n ≤ 1023) × ((length flags ≡ length flags₀) × (fromTop directory cards n flags ≡ fromTop directory cards (top directory) flags₀))
+Inv-loop directory ways cards first link flags₀ n₀ flags n = (n ≤ 1023) × ((length flags ≡ length flags₀) × (fromTop directory cards n flags ≡ fromTop directory cards (top directory) flags₀))
 
 abbrev μ-loop : tie.MeasureT-loop
-μ-loop directory cards first link flags₀ n₀ flags n = n
+μ-loop directory ways cards first link flags₀ n₀ flags n = n
 
 least-requires : tie.Need-least-requires Inv-loop μ-loop
 least-requires c κs = search needs
@@ -31,7 +31,7 @@ loop-less : tie.Need-loop-less Inv-loop μ-loop
 loop-less c = omega (arith, c .before .before .before .before .loop-test .taken)
 
 loop-again : tie.Need-loop-again Inv-loop μ-loop
-loop-again c = let a = c .before .before .before .before .before .before .before .before .before .before .before .before .args in let l = c .before .before .before .before .before .loop in let w = c .before .before .act-owner in (omega (arith, l .inv .0), (w .kept .1 .1 .1 .1 .1 .0 ∙ l .inv .1 .0, sym (top-more (a .directory .now) (a .cards .now) (l .n) (l .flags) _ (c .before .before .before .before .loop-test .taken) (w .ensures)) ∙ l .inv .1 .1))
+loop-again c = let a = c .before .before .before .before .before .before .before .before .before .before .before .before .args in let l = c .before .before .before .before .before .loop in let w = c .before .before .act-owner in (omega (arith, l .inv .0), (w .kept .1 .1 .1 .1 .1 .1 .0 ∙ l .inv .1 .0, sym (top-more (a .directory .now) (a .cards .now) (l .n) (l .flags) _ (c .before .before .before .before .loop-test .taken) (w .ensures)) ∙ l .inv .1 .1))
 
 same-length : tie.Need-same-length Inv-loop μ-loop
 same-length c = c .before .loop .inv .1 .0

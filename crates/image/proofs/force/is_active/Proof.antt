@@ -1,79 +1,31 @@
--- What the words passed say is carried to those left. Assumes nothing.
-use mathlib.Core.Path.{_≡_, sym, _∙_}
-use Prim.Native.Nat.{_≤_, _-_}
+-- What stands past the image's end says nothing, and where no word stands the card is not active. Assumes nothing.
+use Prim.Native.Nat.{ℕ}
+use mathlib.Core.Path.{sym, ap, _∙_}
 use mathlib.Core.Bool.{false}
-use Rattle.library.specs.Check.{threes, rawBytes}
-use Rattle.library.specs.Rows.{part, flagged, sayAll}
-use Rattle.library.proofs.Weighing.{active-start, active-on, active-end}
+use mathlib.Core.List.{List}
+use Rattle.library.specs.Check.{rawBytes}
+use Rattle.image.specs.Bytes.{part, flagged, sayAll}
+use Rattle.image.proofs.Weighing.{part-none, part-least}
 use borrow.Author.Needs.{needs}
 use Rattle.image.proofs.force.is_active.Statement.{statement}
 use Rattle.image.proofs.force.is_active.Tie as tie
 
-abbrev Inv-loop : tie.InvT-loop
-Inv-loop image at text flags so₀ i₀ so i = (i ≤ text) × (sayAll (flagged flags) false (rawBytes (part at text image)) ≡ sayAll (flagged flags) so (threes (part i text image)))
+least-requires : tie.Need-least-requires
+least-requires c κs = search needs
 
-abbrev μ-loop : tie.MeasureT-loop
-μ-loop image at text flags so₀ i₀ so i = text - i
-
-mul-say-byte : tie.Need-mul-say-byte Inv-loop μ-loop
-mul-say-byte c = search needs
-
-shared-slice-read-say-byte : tie.Need-shared-slice-read-say-byte Inv-loop μ-loop
-shared-slice-read-say-byte c = search needs
-
-say-byte-requires : tie.Need-say-byte-requires Inv-loop μ-loop
-say-byte-requires c κs = search needs
-
-add-i : tie.Need-add-i Inv-loop μ-loop
-add-i c = search needs
-
-loop-holds : tie.Need-loop-holds Inv-loop μ-loop
-loop-holds c =
-    let a = c .before .before .before .before .args in
-    (search needs, active-start (flagged (a .flags .now)) (a .image .now) (a .at) (a .text) (c .before .before .before .before .pre .1) (c .before .before .before .before .pre .0) (c .say-byte .result) (c .say-byte .ensures))
-
-mul-say-word : tie.Need-mul-say-word Inv-loop μ-loop
-mul-say-word c = search needs
-
-shared-slice-read-say-word : tie.Need-shared-slice-read-say-word Inv-loop μ-loop
-shared-slice-read-say-word c = search needs
-
-say-word-requires : tie.Need-say-word-requires Inv-loop μ-loop
-say-word-requires c κs = search needs
-
-add-i-2 : tie.Need-add-i-2 Inv-loop μ-loop
-add-i-2 c = search needs
-
-loop-less : tie.Need-loop-less Inv-loop μ-loop
-loop-less c = search needs
-
-loop-again : tie.Need-loop-again Inv-loop μ-loop
-loop-again c =
-    let a = c .before .before .before .before .before .before .before .before .args in
-    let l = c .before .before .before .loop in
-    (search needs, l .inv .1 ∙ active-on (flagged (a .flags .now)) (a .image .now) (l .i) (a .text) (c .before .before .before .before .before .before .before .before .pre .1) (c .before .before .loop-test .taken) (l .so) (c .say-word .result) (c .say-word .ensures))
-
-returns : tie.Need-returns Inv-loop μ-loop
+returns : tie.Need-returns
 returns c =
-    let a = c .before .before .before .before .before .before .args in
-    let l = c .before .loop in
-    sym (l .inv .1 ∙ active-end (flagged (a .flags .now)) (a .image .now) (l .i) (a .text) (c .before .before .before .before .before .before .pre .1) (c .loop-test .left) (l .so))
+    let a = c .before .before .before .before .args in
+    let l = c .before .least in
+    sym (ap (λ (ws : List ℕ). sayAll (flagged (a .flags .now)) false (rawBytes ws)) (part-least (a .at) (a .text) (a .image .now) ∙ ap (λ (n : ℕ). part (a .at) n (a .image .now)) (sym (l .ensures .0)) ∙ part-none (a .image .now) (a .at) (l .result) (c .if1 .taken)))
+
+active-in-requires : tie.Need-active-in-requires
+active-in-requires c κs = search needs
+
+returns-2 : tie.Need-returns-2
+returns-2 c =
+    let a = c .before .before .before .before .before .args in
+    c .active-in .ensures ∙ sym (ap (λ (ws : List ℕ). sayAll (flagged (a .flags .now)) false (rawBytes ws)) (part-least (a .at) (a .text) (a .image .now) ∙ ap (λ (n : ℕ). part (a .at) n (a .image .now)) (sym (c .before .before .least .ensures .0))))
 
 pub is-active-spec : {M : Type 1} → statement M
-is-active-spec =
-    tie.close
-    (tie.spec
-    Inv-loop
-    μ-loop
-    mul-say-byte
-    shared-slice-read-say-byte
-    say-byte-requires
-    add-i
-    loop-holds
-    mul-say-word
-    shared-slice-read-say-word
-    say-word-requires
-    add-i-2
-    loop-less
-    loop-again
-    returns)
+is-active-spec = tie.close (tie.spec least-requires returns active-in-requires returns-2)

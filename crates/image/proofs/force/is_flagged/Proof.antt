@@ -1,5 +1,5 @@
 -- A number beyond the flags has none. Assumes nothing.
-use Rattle.library.proofs.Weighing.{flag-beyond}
+use Rattle.image.proofs.Weighing.{flag-beyond}
 use borrow.Author.Needs.{needs}
 use Rattle.image.proofs.force.is_flagged.Statement.{statement}
 use Rattle.image.proofs.force.is_flagged.Tie as tie

@@ -1,7 +1,7 @@
 -- An unused or yanked byte leaves what was said, any other says it anew. Assumes nothing.
 use mathlib.Core.Path.{sym, _∙_}
-use Rattle.library.proofs.Weighing.{byte-none, byte-yanked, byte-says}
-use Rattle.library.specs.Rows.{flagged}
+use Rattle.image.proofs.Weighing.{byte-none, byte-yanked, byte-says}
+use Rattle.image.specs.Bytes.{flagged}
 use borrow.Author.Needs.{needs}
 use Rattle.image.proofs.force.say_byte.Statement.{statement}
 use Rattle.image.proofs.force.say_byte.Tie as tie

@@ -2,7 +2,7 @@
 use mathlib.Core.Path.{ap, _∙_}
 use Prim.Native.Nat.{_/_, _%_, _^_}
 use mathlib.Core.Bool.{Bool}
-use Rattle.library.specs.Rows.{flagged, sayByte}
+use Rattle.image.specs.Bytes.{flagged, sayByte}
 use borrow.Author.Needs.{needs}
 use Rattle.image.proofs.force.say_word.Statement.{statement}
 use Rattle.image.proofs.force.say_word.Tie as tie

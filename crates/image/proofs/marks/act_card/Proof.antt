@@ -1,9 +1,8 @@
 -- A card in force marks what its line names.
 use mathlib.Core.Path.{sym, ap, _∙_}
-use native.Mathlib.Omega.{arith}
 use mathlib.Core.Bool.{false}
 use Rattle.library.specs.Check.{rawBytes}
-use Rattle.library.specs.Rows.{part, flagged, sayAll}
+use Rattle.image.specs.Bytes.{part, flagged, sayAll}
 use Rattle.library.specs.declared.Seen.{Seen}
 use Rattle.image.specs.Places.{lineIn}
 use Rattle.image.specs.Flags.{inForce, namesIn, marked}
@@ -16,10 +15,10 @@ see-requires : tie.Need-see-requires
 see-requires c κs = search needs
 
 is-active-requires : tie.Need-is-active-requires
-is-active-requires c κs = let s = c .before .see .ensures .0 in (s .1 .1 (c .before .before .before .before .before .pre), omega (arith, s .0, s .1 .0))
+is-active-requires c κs = search needs
 
 mark-text-requires : tie.Need-mark-text-requires
-mark-text-requires c κs = search needs
+mark-text-requires c κs = c .before .before .before .before .before .before .before .before .pre
 
 same-length : tie.Need-same-length
 same-length c = search needs

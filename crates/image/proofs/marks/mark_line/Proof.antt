@@ -21,7 +21,7 @@ field-of-requires : tie.Need-field-of-requires
 field-of-requires c κs = search needs
 
 mark-names-requires : tie.Need-mark-names-requires
-mark-names-requires c κs = search needs
+mark-names-requires c κs = c .before .before .before .before .before .before .before .before .pre
 
 same-length : tie.Need-same-length
 same-length c = search needs

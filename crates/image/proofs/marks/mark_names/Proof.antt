@@ -10,10 +10,10 @@ use Rattle.image.proofs.marks.mark_names.Statement.{statement}
 use Rattle.image.proofs.marks.mark_names.Tie as tie
 
 abbrev Inv-loop : tie.InvT-loop
-Inv-loop directory field flags₀ at₀ flags at = (at ≤ length field + 1) × ((length flags ≡ length flags₀) × Marking directory field flags₀ flags at)
+Inv-loop directory ways field flags₀ at₀ flags at = (at ≤ length field + 1) × ((length flags ≡ length flags₀) × Marking directory field flags₀ flags at)
 
 abbrev μ-loop : tie.MeasureT-loop
-μ-loop directory field flags₀ at₀ flags at = length field + 1 - at
+μ-loop directory ways field flags₀ at₀ flags at = length field + 1 - at
 
 loop-holds : tie.Need-loop-holds Inv-loop μ-loop
 loop-holds c = (search needs, (refl, mark-start _ _ _))
@@ -24,8 +24,8 @@ next-name-requires c κs = search needs
 enum-known-word : tie.Need-enum-known-word Inv-loop μ-loop
 enum-known-word c = search needs
 
-entry-of-requires : tie.Need-entry-of-requires Inv-loop μ-loop
-entry-of-requires c κs = search needs
+entry-by-requires : tie.Need-entry-by-requires Inv-loop μ-loop
+entry-by-requires c κs = search needs
 
 mark-number-requires : tie.Need-mark-number-requires Inv-loop μ-loop
 mark-number-requires c κs = search needs
@@ -41,6 +41,7 @@ loop-less c =
 loop-again : tie.Need-loop-again Inv-loop μ-loop
 loop-again c =
     let a = c .before .before .before .before .before .before .before .before .before .before .before .before .before .args in
+    let know = c .before .before .before .before .before .before .before .before .before .before .before .before .before .pre in
     let l = c .before .before .before .before .before .before .before .before .before .loop in
     let w = c .before .before .before .before .before .before .word .given in
     let e = sym (c .before .before .before .before .before .before .before .before .next-name .ensures) ∙ w .1 in
@@ -48,7 +49,7 @@ loop-again c =
       s .bound,
       (
         c .before .before .mark-number .kept .0 ∙ l .inv .1 .0,
-        mark-more (a .directory .now) (a .field .now) (a .flags .now) (l .flags) (l .at) (l .inv .1 .1) (w .0 .0) (w .0 .1 .0) _ _ e (c .before .before .before .entry-of .ensures) (c .before .before .mark-number .ensures),
+        mark-more (a .directory .now) (a .field .now) (a .flags .now) (l .flags) (l .at) (l .inv .1 .1) (w .0 .0) (w .0 .1 .0) _ _ e (c .before .before .before .entry-by .ensures ∙ know (w .0 .0)) (c .before .before .mark-number .ensures),
       ),
     )
 
@@ -73,7 +74,7 @@ mark-names-spec =
     loop-holds
     next-name-requires
     enum-known-word
-    entry-of-requires
+    entry-by-requires
     mark-number-requires
     loop-less
     loop-again

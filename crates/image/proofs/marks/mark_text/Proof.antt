@@ -19,7 +19,7 @@ slice-aggregate-mark-line : tie.Need-slice-aggregate-mark-line
 slice-aggregate-mark-line c = sym (length-take-le (c .before .line-of .result) (c .before .line-of .last .1 .1 .1 .0) (c .before .line-of .ensures .0))
 
 mark-line-requires : tie.Need-mark-line-requires
-mark-line-requires c κs = search needs
+mark-line-requires c κs = c .before .before .before .before .before .before .before .pre
 
 same-length : tie.Need-same-length
 same-length c = search needs

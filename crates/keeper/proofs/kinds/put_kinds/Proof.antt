@@ -4,8 +4,8 @@ use mathlib.Core.Path.{_≡_, sym}
 use mathlib.Core.List.{List}
 use Prim.Native.Nat.{ℕ, _-_}
 use lib.ListN.{length}
-use Rattle.library.proofs.Spanning.{Still, still-start, still-on, still-end}
-use Rattle.library.proofs.Showing.{shown-next}
+use Rattle.checks.proofs.Spanning.{Still, still-start, still-on, still-end}
+use Rattle.checks.proofs.Showing.{shown-next}
 use Rattle.keeper.specs.Parts.{kindsOf}
 use Rattle.keeper.proofs.Kinding.{shown-kind}
 use borrow.Author.Needs.{needs}
@@ -41,7 +41,7 @@ loop-again c =
     let ws = a .image .now in
     let l = c .before .before .before .before .before .before .before .loop in
     let r = c .before .before .before .before .before .see .result in
-    let sees = c .before .before .before .before .before .see .ensures .1 in
+    let sees = c .before .before .before .before .before .see .ensures .1 .1 in
     let k = c .before .before .put-kind in (
       omega (arith, l .inv .0, k .kept .0),
       λ d. still-on d ws (a .from) (length ws) (λ ss. kindsOf ss (a .kinds .now)) (l .at) (λ ss. kindsOf ss (l .kinds)) (l .inv .1 d) (c .before .before .before .before .before .before .loop-test .taken) (r .next) (λ ss. kindsOf ss (k .last .0))

@@ -67,7 +67,7 @@ returns-5 c =
     let f = c .before .before .before .before .before .before .before .before .before .before .before .before .before .seek-card in
     let o = c .before .before .open-ahead in
     let same : length (o .last .0) ≡ length (a .w .now) = search needs in (
-      moved-sane (a .w .now) (o .last .0) (a .d) (o .result) (pre .0) same (o .ensures .0),
+      moved-sane (a .w .now) (o .last .0) (a .d) (o .result) (f .result .index) (pre .0) same (o .ensures .0) (omega (arith, c .before .before .before .before .before .before .before .before .before .before .if2 .left)),
       before-on (a .w .now) (a .dir .now) (a .decks .now) (a .d) (a .r) (o .last .0) (not-left (a .d .set) (c .before .before .before .before .before .before .before .before .before .before .before .before .before .before .before .if1 .left)) (f .result) (f .ensures .1) (c .before .before .before .before .before .before .before .before .before .before .if2 .left) (c .before .before .before .before .before .before .before .if3 .left) (sym (c .before .before .before .before .before .before .is-title .ensures) ∙ c .before .before .before .before .before .if4 .left) (o .result) (o .ensures .1),
     )
 

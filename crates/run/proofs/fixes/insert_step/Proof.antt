@@ -41,18 +41,21 @@ returns-3 c =
 open-after-requires : tie.Need-open-after-requires
 open-after-requires c κs = search needs
 
+add-t16 : tie.Need-add-t16
+add-t16 c = search needs
+
 same-length-3 : tie.Need-same-length-3
 same-length-3 c = search needs
 
 returns-4 : tie.Need-returns-4
 returns-4 c =
-    let a = c .before .before .before .before .before .before .before .before .before .before .before .before .before .before .before .before .before .args in
-    let pre = c .before .before .before .before .before .before .before .before .before .before .before .before .before .before .before .before .before .pre in
-    let f = c .before .before .before .before .before .before .before .before .before .before .before .seek-card in
-    let o = c .before .before .open-after in
+    let a = c .before .before .before .before .before .before .before .before .before .before .before .before .before .before .before .before .before .before .args in
+    let pre = c .before .before .before .before .before .before .before .before .before .before .before .before .before .before .before .before .before .before .pre in
+    let f = c .before .before .before .before .before .before .before .before .before .before .before .before .seek-card in
+    let o = c .before .before .before .open-after in
     let same : length (o .last .0) ≡ length (a .w .now) = search needs in (
-      moved-sane (a .w .now) (o .last .0) (a .d) (o .result) (pre .0) same (o .ensures .0),
-      insert-on (a .w .now) (a .dir .now) (a .d) (a .r) (o .last .0) (not-left (a .d .set) (c .before .before .before .before .before .before .before .before .before .before .before .before .before .if1 .left)) (f .result) (f .ensures .1) (c .before .before .before .before .before .before .before .before .if2 .left) (c .before .before .before .before .before .if3 .left) (o .result) (o .ensures .1),
+      moved-sane (a .w .now) (o .last .0) (a .d) (o .result) (f .result .index + 1) (pre .0) same (o .ensures .0) (omega (arith, c .before .before .before .before .before .before .before .before .before .if2 .left)),
+      insert-on (a .w .now) (a .dir .now) (a .d) (a .r) (o .last .0) (not-left (a .d .set) (c .before .before .before .before .before .before .before .before .before .before .before .before .before .before .if1 .left)) (f .result) (f .ensures .1) (c .before .before .before .before .before .before .before .before .before .if2 .left) (c .before .before .before .before .before .before .if3 .left) (o .result) (o .ensures .1),
     )
 
 pub insert-step-spec : {M : Type 1} → statement M
@@ -66,5 +69,6 @@ insert-step-spec =
     same-length-2
     returns-3
     open-after-requires
+    add-t16
     same-length-3
     returns-4)

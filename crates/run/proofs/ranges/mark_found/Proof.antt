@@ -98,15 +98,20 @@ returns-2 c =
     let y = c .before .before .before .before .yank-marked in
     (y .ensures .0, found-yanks (a .w .now) (a .dir .now) (a .decks .now) (a .flags .now) (a .d) (a .was) (a .f) (a .l) (a .seq) (pre .0) (pre .1 .1 .1 .1 .0) (o .last .0) (o .result) half (o .ensures .0) (o .ensures .1) titles (m .last .0) (m .result) full (m .ensures .1) k done ordered (c .before .before .before .before .before .before .before .if2 .taken) (y .last .0) (y .last .1 .1 .0) (y .result) (y .ensures .1))
 
+add-t34 : tie.Need-add-t34
+add-t34 c =
+    let pre = c .before .before .before .before .before .before .before .before .before .before .before .before .before .before .before .before .before .before .before .before .before .before .before .before .before .pre in
+    record { fits = omega (arith, pre .0 .cards, pre .1 .1 .1 .1 .1) }
+
 limited-requires : tie.Need-limited-requires
 limited-requires c κs =
-    let a = c .before .before .before .before .before .before .before .before .before .before .before .before .before .before .before .before .before .before .before .before .before .before .before .before .args in
-    let pre = c .before .before .before .before .before .before .before .before .before .before .before .before .before .before .before .before .before .before .before .before .before .before .before .before .pre in
-    let o = c .before .before .before .before .before .before .before .before .before .before .before .before .before .before .before .before .before .open-ahead in
+    let a = c .before .before .before .before .before .before .before .before .before .before .before .before .before .before .before .before .before .before .before .before .before .before .before .before .before .args in
+    let pre = c .before .before .before .before .before .before .before .before .before .before .before .before .before .before .before .before .before .before .before .before .before .before .before .before .before .pre in
+    let o = c .before .before .before .before .before .before .before .before .before .before .before .before .before .before .before .before .before .before .open-ahead in
     let half : length (o .last .0) ≡ length (a .w .now) = o .kept .0 in
-    let m = c .before .before .before .before .before .before .before .before .mark-between in
-    let k = c .before .before .before .before .m .given .0 .0 in
-    let done = c .before .before .before .before .m .given .1 in
+    let m = c .before .before .before .before .before .before .before .before .before .mark-between in
+    let k = c .before .before .before .before .before .m .given .0 .0 in
+    let done = c .before .before .before .before .before .m .given .1 in
     let ordered : Ordered (o .last .0) k = subst (KeepsOrder (o .last .0)) done (m .ensures .0) in
     (omega (arith, ordered .1, half, pre .0 .room), (omega (arith, ordered .0, ordered .1, half, pre .0 .room), (omega (arith, pre .0 .entries), omega (arith, pre .0 .decks))))
 
@@ -145,21 +150,21 @@ same-length-6 c = search needs
 
 returns-5 : tie.Need-returns-5
 returns-5 c =
-    let a = c .before .before .before .before .before .before .before .before .before .before .before .before .before .before .before .before .before .before .before .before .before .before .before .before .before .args in
-    let pre = c .before .before .before .before .before .before .before .before .before .before .before .before .before .before .before .before .before .before .before .before .before .before .before .before .before .pre in
-    let o = c .before .before .before .before .before .before .before .before .before .before .before .before .before .before .before .before .before .before .open-ahead in
-    let n = c .before .before .before .before .before .before .before .before .before .before .before .before .has-title in
+    let a = c .before .before .before .before .before .before .before .before .before .before .before .before .before .before .before .before .before .before .before .before .before .before .before .before .before .before .args in
+    let pre = c .before .before .before .before .before .before .before .before .before .before .before .before .before .before .before .before .before .before .before .before .before .before .before .before .before .before .pre in
+    let o = c .before .before .before .before .before .before .before .before .before .before .before .before .before .before .before .before .before .before .before .open-ahead in
+    let n = c .before .before .before .before .before .before .before .before .before .before .before .before .before .has-title in
     let half : length (o .last .0) ≡ length (a .w .now) = o .kept .0 in
-    let titles : HasTitle (o .last .0) (a .decks .now) (o .result .hi) (a .l .index - a .f .index + 1) false = subst (HasTitle (o .last .0) (a .decks .now) (o .result .hi) (a .l .index - a .f .index + 1)) (c .before .before .before .before .before .before .before .before .before .before .before .if1 .left) (n .ensures) in
-    let m = c .before .before .before .before .before .before .before .before .before .mark-between in
+    let titles : HasTitle (o .last .0) (a .decks .now) (o .result .hi) (a .l .index - a .f .index + 1) false = subst (HasTitle (o .last .0) (a .decks .now) (o .result .hi) (a .l .index - a .f .index + 1)) (c .before .before .before .before .before .before .before .before .before .before .before .before .if1 .left) (n .ensures) in
+    let m = c .before .before .before .before .before .before .before .before .before .before .mark-between in
     let full : length (m .last .0) ≡ length (a .w .now) = m .kept .0 ∙ half in
-    let k = c .before .before .before .before .before .m .given .0 .0 in
-    let done = c .before .before .before .before .before .m .given .1 in
+    let k = c .before .before .before .before .before .before .m .given .0 .0 in
+    let done = c .before .before .before .before .before .before .m .given .1 in
     let ordered : Ordered (o .last .0) k = subst (KeepsOrder (o .last .0)) done (m .ensures .0) in
     let e = c .limited .ensures in (
-      subst (SaneAfter (m .last .0)) (sym e) (fitted-sane (m .last .0) (movedDesk (a .d) k) (omega (arith, ordered .1, half, full)) (full ∙ pre .0 .room) (pre .0 .next)),
+      subst (SaneAfter (m .last .0)) (sym e) (fitted-sane (m .last .0) (movedDesk (a .d) k (a .l .index + 1)) (omega (arith, ordered .1, half, full)) (full ∙ pre .0 .room) (pre .0 .next) (pre .0 .yanks) (omega (arith, pre .1 .1 .1 .1 .1))),
       subst (MarksFound (a .w .now) (a .dir .now) (a .decks .now) (a .flags .now) (a .d) (a .was) (a .f) (a .l) (a .seq) (m .last .0) (a .flags .now)) (sym e)
-          (found-decks (a .w .now) (a .dir .now) (a .decks .now) (a .flags .now) (a .d) (a .was) (a .f) (a .l) (a .seq) (pre .0) (pre .1 .1 .1 .1 .0) (o .last .0) (o .result) half (o .ensures .0) (o .ensures .1) titles (m .last .0) (m .result) full (m .ensures .1) k done ordered (c .before .if2 .left)),
+          (found-decks (a .w .now) (a .dir .now) (a .decks .now) (a .flags .now) (a .d) (a .was) (a .f) (a .l) (a .seq) (pre .0) (pre .1 .1 .1 .1 .0) (o .last .0) (o .result) half (o .ensures .0) (o .ensures .1) titles (m .last .0) (m .result) full (m .ensures .1) k done ordered (c .before .before .if2 .left)),
     )
 
 pub mark-found-spec : {M : Type 1} → statement M
@@ -180,6 +185,7 @@ mark-found-spec =
     same-length-2
     same-length-3
     returns-2
+    add-t34
     limited-requires
     same-length-4
     returns-3

@@ -9,6 +9,7 @@ use Rattle.run.proofs.ranges.mark_step.Reads as reads
 use Rattle.run.proofs.ranges.mark_step.Lts as lts
 use Rattle.run.proofs.fixes.seek_card.Reads as seek-card-reads
 use Rattle.run.proofs.ranges.mark_found.Reads as mark-found-reads
+use Rattle.run.proofs.ranges.seek_last.Reads as seek-last-reads
 
 returns : tie.Need-returns
 returns c = let a = c .before .before .before .before .before .before .args in (tt, mark-off (a .w .now) (a .dir .now) (a .decks .now) (a .flags .now) (a .d) (a .was) (a .a) (a .b) _ _ (not-taken (a .d .set) (c .if1 .taken)))
@@ -25,8 +26,8 @@ returns-2 c =
     let f = c .before .before .before .seek-card in
     (tt, mark-no-first (a .w .now) (a .dir .now) (a .decks .now) (a .flags .now) (a .d) (a .was) (a .a) (a .b) _ _ (not-left (a .d .set) (c .before .before .before .before .before .if1 .left)) (f .result) (f .ensures .1) (c .if2 .taken))
 
-seek-card-requires-2 : tie.Need-seek-card-requires-2
-seek-card-requires-2 c κs = search needs
+seek-last-requires : tie.Need-seek-last-requires
+seek-last-requires c κs = search needs
 
 same-length-2 : tie.Need-same-length-2
 same-length-2 c = search needs
@@ -35,7 +36,7 @@ returns-3 : tie.Need-returns-3
 returns-3 c =
     let a = c .before .before .before .before .before .before .before .before .before .before .before .before .before .before .before .before .args in
     let f = c .before .before .before .before .before .before .before .before .seek-card in
-    let k = c .before .before .before .seek-card2 in
+    let k = c .before .before .before .seek-last in
     (tt, mark-no-last (a .w .now) (a .dir .now) (a .decks .now) (a .flags .now) (a .d) (a .was) (a .a) (a .b) _ _ (not-left (a .d .set) (c .before .before .before .before .before .before .before .before .before .before .if1 .left)) (f .result) (f .ensures .1) (k .result) (k .ensures .1) (c .if3 .taken))
 
 same-length-3 : tie.Need-same-length-3
@@ -45,13 +46,13 @@ returns-4 : tie.Need-returns-4
 returns-4 c =
     let a = c .before .before .before .before .before .before .before .before .before .before .before .before .before .before .before .before .before .before .before .args in
     let f = c .before .before .before .before .before .before .before .before .before .before .before .seek-card in
-    let k = c .before .before .before .before .before .before .seek-card2 in
+    let k = c .before .before .before .before .before .before .seek-last in
     (tt, mark-backwards (a .w .now) (a .dir .now) (a .decks .now) (a .flags .now) (a .d) (a .was) (a .a) (a .b) _ _ (not-left (a .d .set) (c .before .before .before .before .before .before .before .before .before .before .before .before .before .if1 .left)) (f .result) (f .ensures .1) (k .result) (k .ensures .1) (c .before .before .before .before .before .before .before .before .if2 .left) (c .before .before .before .if3 .left) (c .if4 .taken))
 
 mark-found-requires : tie.Need-mark-found-requires
 mark-found-requires c κs =
     let pre = c .before .before .before .before .before .before .before .before .before .before .before .before .before .before .before .before .before .before .before .before .before .pre in
-    (pre .0, (pre .1 .0, (search needs, (pre .1 .1 .1 .1, (c .before .before .if4 .left, omega (arith, c .before .before .before .before .before .if3 .left, pre .0 .cards))))))
+    (pre .0, (pre .1 .0, (search needs, (pre .1 .1 .1 .1, (c .before .before .if4 .left, c .before .before .before .before .before .if3 .left)))))
 
 same-length-4 : tie.Need-same-length-4
 same-length-4 c = search needs
@@ -63,7 +64,7 @@ returns-5 : tie.Need-returns-5
 returns-5 c =
     let a = c .before .before .before .before .before .before .before .before .before .before .before .before .before .before .before .before .before .before .before .before .before .before .before .before .before .before .args in
     let f = c .before .before .before .before .before .before .before .before .before .before .before .before .before .before .before .before .before .before .seek-card in
-    let k = c .before .before .before .before .before .before .before .before .before .before .before .before .before .seek-card2 in
+    let k = c .before .before .before .before .before .before .before .before .before .before .before .before .before .seek-last in
     let m = c .before .before .before .before .mark-found in
     (m .ensures .0, mark-on (a .w .now) (a .dir .now) (a .decks .now) (a .flags .now) (a .d) (a .was) (a .a) (a .b) _ _ (not-left (a .d .set) (c .before .before .before .before .before .before .before .before .before .before .before .before .before .before .before .before .before .before .before .before .if1 .left)) (f .result) (f .ensures .1) (k .result) (k .ensures .1) (m .result) (m .ensures .1) (c .before .before .before .before .before .before .before .before .before .before .before .before .before .before .before .if2 .left) (c .before .before .before .before .before .before .before .before .before .before .if3 .left) (c .before .before .before .before .before .before .before .if4 .left))
 
@@ -75,7 +76,7 @@ mark-step-spec =
     seek-card-requires
     same-length
     returns-2
-    seek-card-requires-2
+    seek-last-requires
     same-length-2
     returns-3
     same-length-3

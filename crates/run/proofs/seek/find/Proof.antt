@@ -1,9 +1,8 @@
 -- The walk goes from card to card; the first of this owner and number is answered, and no card passed was it.
 use Prim.Native.Nat.{_-_, _≤_}
-use mathlib.Core.Path.{refl}
-use mathlib.Core.Logic.{⊎-elim}
+use mathlib.Core.Path.{refl, sym, _∙_}
 use native.Mathlib.Omega.{arith}
-use Rattle.run.proofs.Walking.{Looks, look-start, look-found, look-on, look-end}
+use Rattle.run.proofs.Walking.{Looks, look-start, look-here, look-next, look-end}
 use borrow.Author.Needs.{needs}
 use Rattle.run.proofs.seek.find.Statement.{statement}
 use Rattle.run.proofs.seek.find.Tie as tie
@@ -17,23 +16,16 @@ abbrev μ-loop : tie.MeasureT-loop
 loop-holds : tie.Need-loop-holds Inv-loop μ-loop
 loop-holds c = (search needs, (omega arith, look-start))
 
-see-requires : tie.Need-see-requires Inv-loop μ-loop
-see-requires c κs = search needs
+is-card-requires : tie.Need-is-card-requires Inv-loop μ-loop
+is-card-requires c κs = search needs
 
 returns : tie.Need-returns Inv-loop μ-loop
 returns c =
-    let l = c .before .before .before .before .before .before .loop in
-    let s = c .before .before .before .before .see in (
-      omega arith,
-      look-found (l .inv .1 .1) (s .result) (s .ensures .1) (c .before .before .before .before .before .loop-test .taken)
-          (c .before .before .if1 .taken) (c .if2 .taken) _ refl refl,
-    )
+    let l = c .before .before .before .loop in
+    (omega arith, look-here (l .inv .1 .1) (c .before .before .loop-test .taken) (sym (c .before .is-card .ensures) ∙ c .if1 .taken) _ refl refl)
 
-add-at : tie.Need-add-at Inv-loop μ-loop
-add-at c = search needs
-
-add-at-2 : tie.Need-add-at-2 Inv-loop μ-loop
-add-at-2 c = search needs
+next-card-requires : tie.Need-next-card-requires Inv-loop μ-loop
+next-card-requires c κs = search needs
 
 add-i : tie.Need-add-i Inv-loop μ-loop
 add-i c = search needs
@@ -44,14 +36,7 @@ loop-less c = search needs
 loop-again : tie.Need-loop-again Inv-loop μ-loop
 loop-again c =
     let l = c .before .before .before .before .loop in
-    let s = c .before .before .see in (
-      omega arith,
-      (
-        omega arith,
-        look-on (l .inv .1 .1) (s .result) (s .ensures .1) (c .before .before .before .loop-test .taken)
-            (λ p q. ⊎-elim (λ x. x .2 .left q) (λ x. x .left p) (c .if1 .came)),
-      ),
-    )
+    (omega arith, (omega arith, look-next (l .inv .1 .1) (c .before .before .before .loop-test .taken) (sym (c .before .before .is-card .ensures) ∙ c .before .if1 .left) (c .next-card .result) (c .next-card .ensures .1)))
 
 returns-2 : tie.Need-returns-2 Inv-loop μ-loop
 returns-2 c =
@@ -65,10 +50,9 @@ find-spec =
     Inv-loop
     μ-loop
     loop-holds
-    see-requires
+    is-card-requires
     returns
-    add-at
-    add-at-2
+    next-card-requires
     add-i
     loop-less
     loop-again

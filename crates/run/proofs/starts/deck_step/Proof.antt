@@ -2,39 +2,36 @@
 use Prim.Native.Nat.{ℕ, _+_, _≤_, _<_}
 use native.Mathlib.Omega.{arith}
 use mathlib.Core.Path.{_≡_, refl, sym, _∙_, subst}
-use lib.ListN.{length, take, set}
+use lib.ListN.{length, set}
 use borrow.Author.Needs.{needs}
-use Rattle.library.specs.Library.{entryOf}
 use Rattle.run.specs.Desk.{SaneAfter}
 use Rattle.run.specs.Obeyed.{DeckSteps}
+use Rattle.run.proofs.Correcting.{not-taken, not-left}
 use Rattle.run.proofs.Stepping.{fitted-sane}
-use Rattle.run.proofs.Decking.{deck-reserved, deck-twice, deck-on, deckDesk}
+use Rattle.run.proofs.Decking.{deck-known, deck-on, deckDesk}
 use Rattle.run.proofs.starts.deck_step.Statement.{statement}
 use Rattle.run.proofs.starts.deck_step.Tie as tie
 use Rattle.run.proofs.starts.deck_step.Reads as reads
 use Rattle.run.proofs.starts.deck_step.Lts as lts
 use Rattle.run.proofs.desk.limited.Reads as limited-reads
 use Rattle.run.proofs.gap.open_ahead.Reads as open-ahead-reads
-use Rattle.run.proofs.starts.entry_of.Reads as entry-of-reads
+use Rattle.run.proofs.starts.is_unknown.Reads as is-unknown-reads
 use Rattle.run.proofs.texts.put_line.Reads as put-line-reads
-
-returns : tie.Need-returns
-returns c = let a = c .before .before .before .before .before .before .args in (tt, deck-reserved (a .w .now) (a .dir .now) (a .names .now) (a .decks .now) (a .d) (a .word) (a .line .now) _ _ _ _ (c .if1 .taken))
 
 add-k : tie.Need-add-k
 add-k c = search needs
 
-entry-of-requires : tie.Need-entry-of-requires
-entry-of-requires c κs = search needs
+is-unknown-requires : tie.Need-is-unknown-requires
+is-unknown-requires c κs = search needs
 
 same-length : tie.Need-same-length
 same-length c = search needs
 
-returns-2 : tie.Need-returns-2
-returns-2 c =
-    let a = c .before .before .before .before .before .before .before .before .before .before .args in
-    let e = c .before .entry-of .ensures .1 in
-    (tt, deck-twice (a .w .now) (a .dir .now) (a .names .now) (a .decks .now) (a .d) (a .word) (a .line .now) _ _ _ _ (omega (arith, e, c .if2 .taken)))
+returns : tie.Need-returns
+returns c =
+    let a = c .before .before .before .before .before .before .before .before .before .args in
+    let u = c .before .is-unknown in
+    (tt, deck-known (a .w .now) (a .dir .now) (a .names .now) (a .decks .now) (a .d) (a .word) (a .line .now) _ _ _ _ (sym (u .ensures) ∙ not-taken (u .result) (c .if1 .taken)))
 
 open-ahead-requires : tie.Need-open-ahead-requires
 open-ahead-requires c κs = search needs
@@ -56,7 +53,7 @@ mul-names c = search needs
 
 slice-write-names : tie.Need-slice-write-names
 slice-write-names c =
-    let pre = c .before .before .before .before .before .before .before .before .before .before .before .before .before .before .before .before .before .before .before .pre in
+    let pre = c .before .before .before .before .before .before .before .before .before .before .before .before .before .before .before .before .before .before .pre in
     let few = pre .0 .entries in
     let less = pre .0 .decks in
     let cards = pre .0 .cards in
@@ -70,29 +67,33 @@ mul-decks c = search needs
 
 slice-write-decks : tie.Need-slice-write-decks
 slice-write-decks c =
-    let pre = c .before .before .before .before .before .before .before .before .before .before .before .before .before .before .before .before .before .before .before .pre in
+    let pre = c .before .before .before .before .before .before .before .before .before .before .before .before .before .before .before .before .before .before .pre in
     let few = pre .0 .entries in
     let less = pre .0 .decks in
     let cards = pre .0 .cards in
     omega (arith, pre .1 .0, pre .1 .1 .0, pre .1 .1 .1)
 
-add-t16 : tie.Need-add-t16
-add-t16 c = search needs
+add-t23 : tie.Need-add-t23
+add-t23 c =
+    let pre = c .before .before .before .before .before .before .before .before .before .before .before .before .before .before .before .before .before .before .before .pre in
+    record { fits = omega (arith, pre .0 .cards) }
 
 add-t27 : tie.Need-add-t27
 add-t27 c =
+    let pre = c .before .before .before .before .before .before .before .before .before .before .before .before .before .before .before .before .before .before .before .pre in
+    record { fits = omega (arith, pre .0 .entries) }
+
+add-t29 : tie.Need-add-t29
+add-t29 c =
     let pre = c .before .before .before .before .before .before .before .before .before .before .before .before .before .before .before .before .before .before .before .before .pre in
-    let few = pre .0 .entries in
-    let less = pre .0 .decks in
-    let cards = pre .0 .cards in
-    omega (arith, pre .1 .0, pre .1 .1 .0, pre .1 .1 .1)
+    record { fits = omega (arith, pre .0 .cards) }
 
 limited-requires : tie.Need-limited-requires
 limited-requires c κs =
     let pre = c .before .before .before .before .before .before .before .before .before .before .before .before .before .before .before .before .before .before .before .before .pre in
-    let p = c .before .before .before .put-line .ensures .0 in
+    let p = c .before .before .before .before .put-line .ensures .0 in
     let a = c .before .before .before .before .before .before .before .before .before .before .before .before .before .before .before .before .before .before .before .before .args in
-    let o = c .before .before .before .before .before .before .before .open-ahead in
+    let o = c .before .before .before .before .before .before .before .before .open-ahead in
     let same : length (o .last .0) ≡ length (a .w .now) = search needs in
     (omega (arith, p .0, pre .0 .room), (p .1, (omega (arith, pre .0 .entries), omega (arith, pre .0 .decks))))
 
@@ -108,32 +109,30 @@ same-length-4 c = search needs
 same-length-5 : tie.Need-same-length-5
 same-length-5 c = search needs
 
-returns-3 : tie.Need-returns-3
-returns-3 c =
+returns-2 : tie.Need-returns-2
+returns-2 c =
     let a = c .before .before .before .before .before .before .before .before .before .before .before .before .before .before .before .before .before .before .before .before .before .args in
     let pre = c .before .before .before .before .before .before .before .before .before .before .before .before .before .before .before .before .before .before .before .before .before .pre in
-    let f = c .before .before .before .before .before .before .before .before .before .before .before .before .entry-of in
-    let o = c .before .before .before .before .before .before .before .before .open-ahead in
-    let p = c .before .before .before .before .put-line in
-    let none : entryOf (take (a .d .entries) (a .dir .now)) (a .word) ≡ 0 = omega (arith, f .ensures .1, c .before .before .before .before .before .before .before .before .before .before .before .if2 .left) in
+    let u = c .before .before .before .before .before .before .before .before .before .before .before .before .before .is-unknown in
+    let o = c .before .before .before .before .before .before .before .before .before .open-ahead in
+    let p = c .before .before .before .before .before .put-line in
     let half : length (o .last .0) ≡ length (a .w .now) = search needs in
     let same : length (p .last .0) ≡ length (a .w .now) = search needs in
     let high : p .result .hi ≤ length (o .last .0) = p .ensures .0 .0 in
     let r = c .limited .ensures in (
-      subst (SaneAfter (p .last .0)) (sym r) (fitted-sane (p .last .0) (deckDesk (a .d) (p .result)) (omega arith) (same ∙ pre .0 .room) (omega arith)),
+      subst (SaneAfter (p .last .0)) (sym r) (fitted-sane (p .last .0) (deckDesk (a .d) (p .result)) (omega arith) (same ∙ pre .0 .room) (omega arith) (omega (arith, pre .0 .yanks)) (omega arith)),
       subst (DeckSteps (a .w .now) (a .dir .now) (a .names .now) (a .decks .now) (a .d) (a .word) (a .line .now) (p .last .0) (set (a .dir .now) (a .d .entries) (a .word)) (set (a .names .now) (a .d .decks + 1) (a .word)) (set (a .decks .now) (a .d .entries + 1) 1)) (sym r)
-          (deck-on (a .w .now) (a .dir .now) (a .names .now) (a .decks .now) (a .d) (a .word) (a .line .now) (o .last .0) (o .result) (p .last .0) (p .result) (pre .0) (pre .1 .0) (pre .1 .1 .0) (pre .1 .1 .1) (c .before .before .before .before .before .before .before .before .before .before .before .before .before .before .before .if1 .left) none (o .ensures .1) half (same ∙ pre .0 .room) high (p .ensures .1)),
+          (deck-on (a .w .now) (a .dir .now) (a .names .now) (a .decks .now) (a .d) (a .word) (a .line .now) (o .last .0) (o .result) (p .last .0) (p .result) (pre .0) (pre .1 .0) (pre .1 .1 .0) (pre .1 .1 .1) (sym (u .ensures) ∙ not-left (u .result) (c .before .before .before .before .before .before .before .before .before .before .before .before .if1 .left)) (o .ensures .1) half (same ∙ pre .0 .room) high (p .ensures .1)),
     )
 
 pub deck-step-spec : {M : Type 1} → statement M
 deck-step-spec =
     tie.close
     (tie.spec
-    returns
     add-k
-    entry-of-requires
+    is-unknown-requires
     same-length
-    returns-2
+    returns
     open-ahead-requires
     add-put-line
     put-line-requires
@@ -144,11 +143,12 @@ deck-step-spec =
     add-decks
     mul-decks
     slice-write-decks
-    add-t16
+    add-t23
     add-t27
+    add-t29
     limited-requires
     same-length-2
     same-length-3
     same-length-4
     same-length-5
-    returns-3)
+    returns-2)

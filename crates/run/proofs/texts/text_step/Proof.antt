@@ -30,6 +30,9 @@ put-line-requires c κs = search needs
 add-t13 : tie.Need-add-t13
 add-t13 c = search needs
 
+add-t14 : tie.Need-add-t14
+add-t14 c = search needs
+
 add-t12 : tie.Need-add-t12
 add-t12 c = search needs
 
@@ -47,16 +50,16 @@ same-length c = search needs
 
 returns-3 : tie.Need-returns-3
 returns-3 c =
-    let a = c .before .before .before .before .before .before .before .before .before .before .before .before .args in
-    let p = c .before .before .before .before .before .put-line in
-    let pre = c .before .before .before .before .before .before .before .before .before .before .before .before .pre in
+    let a = c .before .before .before .before .before .before .before .before .before .before .before .before .before .args in
+    let p = c .before .before .before .before .before .before .put-line in
+    let pre = c .before .before .before .before .before .before .before .before .before .before .before .before .before .pre in
     let d = textDesk (a .d) (p .result) in
     let same : length (p .last .0) ≡ length (a .w .now) = search needs in
     let high : p .result .hi ≤ length (a .w .now) = p .ensures .0 .0 in
     let e = c .limited .ensures in (
-      subst (SaneAfter (p .last .0)) (sym e) (fitted-sane (p .last .0) d (omega arith) (same ∙ pre .room) (omega (arith, pre .next))),
+      subst (SaneAfter (p .last .0)) (sym e) (fitted-sane (p .last .0) d (omega arith) (same ∙ pre .room) (omega (arith, pre .next)) (omega (arith, pre .yanks)) (omega (arith, pre .low))),
       subst (TextSteps (a .w .now) (a .d) (a .line .now) (p .last .0)) (sym e)
-          (text-on (a .w .now) (a .d) (a .line .now) (p .last .0) (p .result) (pre .room) (same ∙ pre .room) high (p .ensures .1) (c .before .before .before .before .before .before .before .enum-told3 .given .1)),
+          (text-on (a .w .now) (a .d) (a .line .now) (p .last .0) (p .result) (pre .room) (same ∙ pre .room) high (p .ensures .1) (c .before .before .before .before .before .before .before .before .enum-told3 .given .1)),
     )
 
 pub text-step-spec : {M : Type 1} → statement M
@@ -68,6 +71,7 @@ text-step-spec =
     enum-told-3
     put-line-requires
     add-t13
+    add-t14
     add-t12
     limited-requires
     returns

@@ -7,15 +7,12 @@ use borrow.Author.Needs.{needs}
 use Rattle.run.specs.Desk.{SaneAfter}
 use Rattle.run.specs.YankNames.{LeadAfter, PutsYank}
 use Rattle.run.proofs.Stepping.{fitted-sane}
-use Rattle.run.proofs.YankPutting.{yankDesk, lead-after, lead-over, yanks-over, yank-put}
+use Rattle.run.proofs.YankPutting.{yankDesk, lead-after, lead-over, yank-put}
 use Rattle.run.proofs.yanks.put_yank.Statement.{statement}
 use Rattle.run.proofs.yanks.put_yank.Tie as tie
 
 returns : tie.Need-returns
 returns c = let a = c .before .before .before .before .args in ((tt, tt), lead-over (a .w .now) (a .d) (a .line .now) (a .w .now) (c .before .before .before .before .pre) (c .if1 .taken))
-
-returns-2 : tie.Need-returns-2
-returns-2 c = let a = c .before .before .before .before .before .before .args in ((tt, tt), yanks-over (a .w .now) (a .d) (a .line .now) (a .w .now) (c .before .before .before .before .before .before .pre) (c .if2 .taken))
 
 open-at-requires : tie.Need-open-at-requires
 open-at-requires c κs = search needs
@@ -24,43 +21,50 @@ put-line-requires : tie.Need-put-line-requires
 put-line-requires c κs = search needs
 
 add-t7 : tie.Need-add-t7
-add-t7 c = search needs
-
-add-t16 : tie.Need-add-t16
-add-t16 c =
-    let pre = c .before .before .before .before .before .before .before .before .before .before .before .before .before .before .before .before .before .pre in
-    record { fits = omega (arith, pre .cards, c .before .before .before .before .before .before .before .before .before .before .before .if2 .left) }
+add-t7 c =
+    let pre = c .before .before .before .before .before .before .before .before .before .before .before .before .before .before .pre in
+    record { fits = omega (arith, pre .cards, pre .yanks) }
 
 add-t15 : tie.Need-add-t15
 add-t15 c =
-    let pre = c .before .before .before .before .before .before .before .before .before .before .before .before .before .before .before .before .before .before .pre in
+    let pre = c .before .before .before .before .before .before .before .before .before .before .before .before .before .before .before .pre in
+    record { fits = omega (arith, pre .cards, pre .yanks) }
+
+add-t16 : tie.Need-add-t16
+add-t16 c =
+    let pre = c .before .before .before .before .before .before .before .before .before .before .before .before .before .before .before .before .pre in
+    record { fits = omega (arith, pre .cards, pre .yanks) }
+
+add-t14 : tie.Need-add-t14
+add-t14 c =
+    let pre = c .before .before .before .before .before .before .before .before .before .before .before .before .before .before .before .before .before .pre in
     record { fits = omega (arith, pre .cards, pre .next) }
 
 limited-requires : tie.Need-limited-requires
 limited-requires c κs =
-    let pre = c .before .before .before .before .before .before .before .before .before .before .before .before .before .before .before .before .before .before .pre in
-    let a = c .before .before .before .before .before .before .before .before .before .before .before .before .before .before .before .before .before .before .args in
-    let p = c .before .before .before .before .before .put-line .ensures .0 in
-    let o = c .before .before .before .before .before .before .before .before .before .open-at in
+    let pre = c .before .before .before .before .before .before .before .before .before .before .before .before .before .before .before .before .before .pre in
+    let a = c .before .before .before .before .before .before .before .before .before .before .before .before .before .before .before .before .before .args in
+    let p = c .before .before .before .before .before .before .put-line .ensures .0 in
+    let o = c .before .before .before .before .before .before .before .before .before .before .open-at in
     let same : length (o .last .0) ≡ length (a .w .now) = search needs in
     (omega (arith, p .0, pre .room), (p .1, (omega (arith, pre .entries), omega (arith, pre .decks))))
 
 same-length : tie.Need-same-length
 same-length c = search needs
 
-returns-3 : tie.Need-returns-3
-returns-3 c =
-    let a = c .before .before .before .before .before .before .before .before .before .before .before .before .before .before .before .before .before .before .before .args in
-    let pre = c .before .before .before .before .before .before .before .before .before .before .before .before .before .before .before .before .before .before .before .pre in
-    let o = c .before .before .before .before .before .before .before .before .before .before .open-at in
-    let p = c .before .before .before .before .before .before .put-line in
+returns-2 : tie.Need-returns-2
+returns-2 c =
+    let a = c .before .before .before .before .before .before .before .before .before .before .before .before .before .before .before .before .before .before .args in
+    let pre = c .before .before .before .before .before .before .before .before .before .before .before .before .before .before .before .before .before .before .pre in
+    let o = c .before .before .before .before .before .before .before .before .before .before .before .open-at in
+    let p = c .before .before .before .before .before .before .before .put-line in
     let half : length (o .last .0) ≡ length (a .w .now) = search needs in
     let same : length (p .last .0) ≡ length (a .w .now) = search needs in
     let high : p .result .hi ≤ length (o .last .0) = p .ensures .0 .0 in
     let d = yankDesk (a .d) (p .result) in
     let r = c .limited .ensures in (
       (
-        subst (SaneAfter (p .last .0)) (sym r) (fitted-sane (p .last .0) d (omega arith) (same ∙ pre .room) (omega (arith, pre .next))),
+        subst (SaneAfter (p .last .0)) (sym r) (fitted-sane (p .last .0) d (omega arith) (same ∙ pre .room) (omega (arith, pre .next)) (omega (arith, pre .yanks)) (omega (arith, pre .yanks))),
         subst LeadAfter (sym r) (lead-after (a .d) (p .result)),
       ),
       subst (PutsYank (a .w .now) (a .d) (a .line .now) (p .last .0)) (sym r)
@@ -72,12 +76,12 @@ put-yank-spec =
     tie.close
     (tie.spec
     returns
-    returns-2
     open-at-requires
     put-line-requires
     add-t7
-    add-t16
     add-t15
+    add-t16
+    add-t14
     limited-requires
     same-length
-    returns-3)
+    returns-2)

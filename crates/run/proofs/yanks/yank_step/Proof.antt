@@ -83,7 +83,7 @@ returns-4 c =
     let e = c .before .before .before .before .before .before .before .before .e .given .1 in
     let sane = subst (SaneAfter (p .last .0)) e (p .ensures .0 .0) in
     let same : length (r .last .0) ≡ length (p .last .0) = search needs in (
-      record { ordered = (sane .ordered .0, omega (arith, sane .ordered .1)); room = same ∙ sane .room; entries = sane .entries; decks = sane .decks; cards = sane .cards; next = sane .next },
+      record { ordered = (sane .ordered .0, omega (arith, sane .ordered .1)); room = same ∙ sane .room; entries = sane .entries; decks = sane .decks; cards = sane .cards; next = sane .next; yanks = sane .yanks; low = sane .low },
       yank-on (a .w .now) (a .dir .now) (a .names .now) (a .flags .now) (a .d) (a .line .now) (r .last .0) (r .last .1 .1 .0) set known free (p .last .0) (SteppedOn (c .before .before .before .before .before .before .before .before .e .given .0 .0)) (subst (PutsYank (a .w .now) (a .d) (a .line .now) (p .last .0)) e (p .ensures .1)) (same ∙ sane .room) (r .ensures),
     )
 

@@ -1,32 +1,29 @@
--- `codes::code_in` is right because dividing by a power of 64 brings a code to the lowest place. Assumes nothing.
+-- `codes::code_in` is right because a shift by six bits a place brings a code to the lowest place. Assumes nothing.
 use borrow.Author.Needs.{needs}
-use Prim.Native.Nat.{_-_, _^_}
-use native.Mathlib.Omega.{arith}
-use mathlib.Core.Path.{_≡_}
-use Rattle.words.proofs.Filling.{power-pos}
+use Prim.Native.Nat.{ℕ, _-_, _/_, _%_}
+use mathlib.Core.Path.{ap}
+use Rattle.words.proofs.Filling.{bits-power}
 use Rattle.words.proofs.codes.code_in.Statement.{statement}
 use Rattle.words.proofs.codes.code_in.Tie as tie
 
-sub-power : tie.Need-sub-power
-sub-power c = search needs
+sub-result : tie.Need-sub-result
+sub-result c = search needs
 
-sub-power-2 : tie.Need-sub-power-2
-sub-power-2 c = search needs
+sub-result-2 : tie.Need-sub-result-2
+sub-result-2 c = search needs
 
-power-requires : tie.Need-power-requires
-power-requires c κs = search needs
+mul-result : tie.Need-mul-result
+mul-result c = search needs
 
-div-result : tie.Need-div-result
-div-result c = omega (arith, c .power .ensures, power-pos (9 - c .before .args .place))
+shr-result : tie.Need-shr-result
+shr-result c = search needs
 
 cast-result : tie.Need-cast-result
 cast-result c = search needs
 
 returns : tie.Need-returns
-returns c =
-    let p : c .power .result ≡ 64 ^ (9 - c .before .args .place) = c .power .ensures in
-    rw p
+returns c = ap (λ (p : ℕ). c .args .word / p % 64) (bits-power (9 - c .args .place))
 
 pub code-in-spec : {M : Type 1} → statement M
 code-in-spec =
-    tie.close (tie.spec sub-power sub-power-2 power-requires div-result cast-result returns)
+    tie.close (tie.spec sub-result sub-result-2 mul-result shr-result cast-result returns)

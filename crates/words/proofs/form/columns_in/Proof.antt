@@ -1,24 +1,28 @@
--- `form::columns_in` is its definition, test by test. Assumes nothing.
+-- `form::columns_in` is right because its sum is the count of columns at every code. Assumes nothing.
 use borrow.Author.Needs.{needs}
-use native.Mathlib.Numerals.{add-one}
-use borrow.Author.Tests.{eq-eqb, ne-eqb, lt-ltb, le-ltb}
+use native.Mathlib.Omega.{arith}
+use Rattle.words.proofs.FormTable.{columns-held, due-few}
 use Rattle.words.proofs.form.columns_in.Statement.{statement}
 use Rattle.words.proofs.form.columns_in.Tie as tie
-
-returns : tie.Need-returns
-returns c = rw (lt-ltb _ 5 (c .before .if1 .taken), eq-eqb _ 0 (c .if2 .taken))
-
-returns-2 : tie.Need-returns-2
-returns-2 c = rw (lt-ltb _ 5 (c .before .if1 .taken), ne-eqb _ 0 (c .if2 .left))
-
-returns-3 : tie.Need-returns-3
-returns-3 c = rw (le-ltb _ 5 (c .before .if1 .left), lt-ltb _ 2 (c .if3 .taken))
 
 add-result : tie.Need-add-result
 add-result c = search needs
 
-returns-4 : tie.Need-returns-4
-returns-4 c = rw (le-ltb _ 5 (c .before .if1 .left), le-ltb _ 2 (c .if3 .left), add-one)
+sub-result : tie.Need-sub-result
+sub-result c = search needs
+
+sub-result-2 : tie.Need-sub-result-2
+sub-result-2 c = search needs
+
+mul-result : tie.Need-mul-result
+mul-result c = omega (arith, due-few (c .args .state) (c .args .c) (c .pre .1 .0))
+
+add-result-2 : tie.Need-add-result-2
+add-result-2 c = omega (arith, due-few (c .args .state) (c .args .c) (c .pre .1 .0))
+
+returns : tie.Need-returns
+returns c = columns-held (c .args .state) (c .args .c) (c .pre .0) (c .pre .1 .0) (c .pre .1 .1)
 
 pub columns-in-spec : {M : Type 1} → statement M
-columns-in-spec = tie.close (tie.spec returns returns-2 returns-3 add-result returns-4)
+columns-in-spec =
+    tie.close (tie.spec add-result sub-result sub-result-2 mul-result add-result-2 returns)

@@ -2,7 +2,6 @@
 use borrow.Author.Needs.{needs}
 use Prim.Native.Nat.{_-_}
 use native.Mathlib.Omega.{arith}
-use mathlib.Core.Path.{refl}
 use Rattle.words.proofs.FormWalk.{Walked, walked-start, columns-few, walked-more, walked-all}
 use Rattle.words.proofs.form.walk_word.Statement.{statement}
 use Rattle.words.proofs.form.walk_word.Tie as tie
@@ -14,10 +13,7 @@ abbrev μ-loop : tie.MeasureT-loop
 μ-loop word state columns w₀ s₀ n₀ k₀ w s n k = 10 - k
 
 loop-holds : tie.Need-loop-holds Inv-loop μ-loop
-loop-holds c = walked-start (c .args .word) (c .args .state) (c .args .columns) (c .pre .0)
-
-cast-c : tie.Need-cast-c Inv-loop μ-loop
-cast-c c = search needs
+loop-holds c = walked-start (c .args .word) (c .args .state) (c .args .columns) (c .pre .0) (c .pre .1 .0) (c .pre .1 .1 .0)
 
 columns-in-requires : tie.Need-columns-in-requires Inv-loop μ-loop
 columns-in-requires c κs = search needs
@@ -26,7 +22,7 @@ add-n : tie.Need-add-n Inv-loop μ-loop
 add-n c =
     let a = c .before .before .before .args in
     let l = c .before .before .loop in
-    omega (arith, l .inv .few, l .inv .bound, columns-few (a .word) (a .state) (a .columns) (l .w) (l .s) (l .n) (l .k) _ (c .columns-in .result) (l .inv) (c .before .loop-test .taken) refl (c .columns-in .ensures))
+    omega (arith, l .inv .few, l .inv .bound, columns-few (a .word) (a .state) (a .columns) (l .w) (l .s) (l .n) (l .k) (l .inv) (c .columns-in .result) (c .columns-in .ensures))
 
 step-requires : tie.Need-step-requires Inv-loop μ-loop
 step-requires c κs = search needs
@@ -44,7 +40,7 @@ loop-again : tie.Need-loop-again Inv-loop μ-loop
 loop-again c =
     let a = c .before .before .before .before .args in
     let l = c .before .before .before .loop in
-    walked-more (a .word) (a .state) (a .columns) (l .w) (l .s) (l .n) (l .k) (c .step .result) (c .before .columns-in .result) (l .inv) (c .before .before .loop-test .taken) (c .step .ensures) (c .before .columns-in .ensures)
+    walked-more (a .word) (a .state) (a .columns) (l .w) (l .s) (l .n) (l .k) (l .inv) (c .step .result) (c .before .columns-in .result) (c .before .before .loop-test .taken) (c .step .ensures) (c .before .columns-in .ensures)
 
 returns : tie.Need-returns Inv-loop μ-loop
 returns c =
@@ -59,7 +55,6 @@ walk-word-spec =
     Inv-loop
     μ-loop
     loop-holds
-    cast-c
     columns-in-requires
     add-n
     step-requires

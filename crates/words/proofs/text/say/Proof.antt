@@ -1,62 +1,49 @@
--- `text::say` is right because the columns that are put, then those that the codes left say, are always the whole line. Assumes nothing.
+-- `text::say` is right because the columns that are put, then those that the words left say, are always the whole line. Assumes nothing.
 use borrow.Author.Needs.{needs}
-use Prim.Native.Nat.{_-_, _*_}
-use native.Mathlib.Omega.{arith}
-use mathlib.Core.Path.{refl}
+use Prim.Native.Nat.{_-_}
 use lib.ListN.{length}
-use Rattle.words.proofs.Answers.{text-few, text-fits}
-use Rattle.words.proofs.Reading.{Saying, said-start, saying-fits, saying-more, saying-end}
+use Rattle.words.proofs.Saying.{SaidText, text-start, word-below, word-fits, text-more, text-end}
 use Rattle.words.proofs.text.say.Statement.{statement}
 use Rattle.words.proofs.text.say.Tie as tie
 
 abbrev Inv-loop : tie.InvT-loop
-Inv-loop text line₀ n at₀ k₀ line at k = Saying text line₀ line at k
+Inv-loop text line₀ at₀ ahead₀ i₀ line at ahead i = SaidText text line₀ line ahead at i
 
 abbrev μ-loop : tie.MeasureT-loop
-μ-loop text line₀ n at₀ k₀ line at k = length text * 10 - k
-
-mul-n : tie.Need-mul-n Inv-loop μ-loop
-mul-n c = omega (arith, text-few (c .before .before .args .text .now) (c .before .before .pre .0))
+μ-loop text line₀ at₀ ahead₀ i₀ line at ahead i = length text - i
 
 loop-holds : tie.Need-loop-holds Inv-loop μ-loop
 loop-holds c =
-    let ws = c .before .before .args .text .now in
-    record {
-      inside = omega arith;
-      few = text-few ws (c .before .before .pre .0);
-      short = text-fits ws (c .before .before .pre .0);
-      room = omega arith;
-      long = c .before .before .pre .1;
-      owed = said-start ws;
-      rest = refl;
-    }
+    let b = c .before .before in
+    text-start (b .args .text .now) (b .args .line .now) (b .pre .0) (b .pre .1)
 
-run-at-requires : tie.Need-run-at-requires Inv-loop μ-loop
-run-at-requires c κs = search needs
+mul-say-word : tie.Need-mul-say-word Inv-loop μ-loop
+mul-say-word c = search needs
 
-put-columns-requires : tie.Need-put-columns-requires Inv-loop μ-loop
-put-columns-requires c κs =
+shared-slice-read-say-word : tie.Need-shared-slice-read-say-word Inv-loop μ-loop
+shared-slice-read-say-word c = search needs
+
+say-word-requires : tie.Need-say-word-requires Inv-loop μ-loop
+say-word-requires c κs =
+    let a = c .before .before .before .before .before .before .args in
     let l = c .before .before .before .loop in
-    let r = c .before .run-at .result in
-    omega (
-      arith,
-      l .inv .long,
-      saying-fits (c .before .before .before .before .before .before .args .text .now) (c .before .before .before .before .before .before .args .line .now) (l .line) (l .at) (l .k) (l .inv) (r .count) (r .byte) (r .codes) (c .before .run-at .ensures .1 .1),
+    let h = c .before .before .loop-test .taken in (
+      word-below (a .text .now) (a .line .now) (l .line) (l .ahead) (l .at) (l .i) (l .inv) h,
+      word-fits (a .text .now) (a .line .now) (l .line) (l .ahead) (l .at) (l .i) (l .inv) h,
     )
 
-add-k : tie.Need-add-k Inv-loop μ-loop
-add-k c = search needs
+add-i : tie.Need-add-i Inv-loop μ-loop
+add-i c = search needs
 
 loop-less : tie.Need-loop-less Inv-loop μ-loop
 loop-less c = search needs
 
 loop-again : tie.Need-loop-again Inv-loop μ-loop
 loop-again c =
-    let a = c .before .before .before .before .before .before .before .before .before .before .args in
-    let l = c .before .before .before .before .before .before .before .loop in
-    let s = c .before .before .before .before .before .run-at in
-    let p = c .before .before .before .put-columns in
-    saying-more (a .text .now) (a .line .now) (l .line) (l .at) (l .k) (l .inv) (p .last .1 .1 .0) (p .result) (s .result .count) (s .result .byte) (s .result .codes) (omega arith) (s .ensures .1 .0) (s .ensures .1 .1) (p .ensures)
+    let a = c .before .before .before .before .before .before .before .before .before .args in
+    let l = c .before .before .before .before .before .before .loop in
+    let s = c .before .before .say-word in
+    text-more (a .text .now) (a .line .now) (l .line) (l .ahead) (l .at) (l .i) (l .inv) (c .before .before .before .before .before .loop-test .taken) (s .last .1 .1 .0) (s .result .ahead) (s .result .at) (search needs) (s .ensures)
 
 same-length : tie.Need-same-length Inv-loop μ-loop
 same-length c = search needs
@@ -65,7 +52,7 @@ returns : tie.Need-returns Inv-loop μ-loop
 returns c =
     let a = c .before .before .before .before .args in
     let l = c .before .loop in
-    saying-end (a .text .now) (a .line .now) (l .line) (l .at) (l .k) (l .inv) (c .loop-test .left)
+    text-end (a .text .now) (a .line .now) (l .line) (l .ahead) (l .at) (l .i) (l .inv) (c .loop-test .left)
 
 pub say-spec : {M : Type 1} → statement M
 say-spec =
@@ -73,11 +60,11 @@ say-spec =
     (tie.spec
     Inv-loop
     μ-loop
-    mul-n
     loop-holds
-    run-at-requires
-    put-columns-requires
-    add-k
+    mul-say-word
+    shared-slice-read-say-word
+    say-word-requires
+    add-i
     loop-less
     loop-again
     same-length

@@ -1,0 +1,12 @@
+pub mod Walking
+pub mod Spanning
+pub mod Showing
+pub mod Telling
+pub mod Weighing
+pub mod Decking
+pub mod Naming
+pub mod KeyTree
+pub mod Keying
+pub mod Slotting
+pub mod Cutting
+pub mod Checking

@@ -1,0 +1,87 @@
+// The corrections of a library, without their code: what a run answers, and 01's numbers of it.
+ghost use mathlib.Core.Path.{_≡_};
+ghost use Rattle.corrections.specs.Run.{whyNumber, ranNumber, ranValue};
+use library::Fault;
+
+// Why a stream is refused: 01's rows 19 to 32.
+pub enum Why {
+    // the stream is over 262,144 bytes
+    Stream,
+    // a byte outside the character set
+    Outside,
+    // a line over 80 columns
+    Long,
+    // a directive's form
+    Malformed,
+    // a directive that is not carried
+    NotCarried,
+    // text with nowhere to go, or a correction outside a set
+    Nowhere,
+    // a new name known or reserved
+    Known,
+    // a YANK of an unknown name
+    Unknown,
+    // a YANK of a deck, of YANK$$$ or of the set itself
+    NoSet,
+    // a card not found
+    NoCard,
+    // a range backwards
+    Backwards,
+    // at or over a deck card, or text in YANK$$$
+    Barred,
+    // a limit of the library would be passed
+    Limit,
+    // the new library is longer than the lent space
+    Space,
+}
+
+// What a run answers: how many words were written, or the row and the place.
+pub enum Ran {
+    Done(usize),
+    Library(Fault, usize),
+    Refused(Why, usize),
+}
+
+// The row of 01's table.
+pub fn why_number(y: Why) -> u64
+    ensures { λ r. ⌜ r ≡ whyNumber y ⌝ }
+{
+    match y {
+        Why::Stream => 19,
+        Why::Outside => 20,
+        Why::Long => 21,
+        Why::Malformed => 22,
+        Why::NotCarried => 23,
+        Why::Nowhere => 24,
+        Why::Known => 25,
+        Why::Unknown => 26,
+        Why::NoSet => 27,
+        Why::NoCard => 28,
+        Why::Backwards => 29,
+        Why::Barred => 30,
+        Why::Limit => 31,
+        Why::Space => 32,
+    }
+}
+
+// 0, or the row of 01's table.
+pub fn ran_number(r: Ran) -> u64
+    ensures { λ n. ⌜ n ≡ ranNumber r ⌝ }
+{
+    match r {
+        Ran::Done(_) => 0,
+        Ran::Library(f, _) => library::fault_number(f),
+        Ran::Refused(y, _) => why_number(y),
+    }
+}
+
+// The words written, or the place.
+pub fn ran_value(r: Ran) -> u64
+    ensures { λ n. ⌜ n ≡ ranValue r ⌝ }
+{
+    match r {
+        Ran::Done(n) => n as u64,
+        Ran::Library(_, p) => p as u64,
+        Ran::Refused(_, n) => n as u64,
+    }
+}

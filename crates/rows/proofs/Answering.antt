@@ -1,0 +1,19 @@
+-- A row's fault, or what comes after it. Assumes nothing.
+--   refused-at, refused-on
+use Prim.Native.Nat.{ℕ}
+use native.Mathlib.Omega.{arith}
+use mathlib.Core.Path.{_≡_, refl, ap}
+use mathlib.Core.Option.{Option, none, some}
+use Rattle.library.specs.declared.Fault.{Fault}
+use Rattle.library.specs.declared.Checked.{Checked}
+use Rattle.library.specs.declared.Checked.the-variants.{Refused}
+use Rattle.library.specs.declared.Found.the-variants.{At, Nothing}
+use Rattle.rows.specs.Found.{found, refusedBy}
+
+pub refused-at : (f : Fault) (o : Option ℕ) (r : Checked) (p : ℕ) → found o ≡ At p → Refused f p ≡ refusedBy f o r
+refused-at f none r p e = absurd (let z : _≡_ {A = ℕ} 0 1 = cc in omega arith)
+refused-at f (some q) r p e = let s : p ≡ q = cc in ap (Refused f) s
+
+pub refused-on : (f : Fault) (o : Option ℕ) (r : Checked) → found o ≡ Nothing → r ≡ refusedBy f o r
+refused-on f none r e = refl
+refused-on f (some q) r e = absurd (let z : _≡_ {A = ℕ} 0 1 = cc in omega arith)

@@ -1,0 +1,8 @@
+pub mod Placing
+pub mod Tabling
+pub mod Listing
+pub mod Forming
+pub mod Seeing
+pub mod Testing
+pub mod Carding
+pub mod Answering

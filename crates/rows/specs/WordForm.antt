@@ -1,0 +1,50 @@
+-- Row 5 word by word, as it is tested; Forming.antt has that this is row 5.
+--   bytes                  okNumber, okNumbers, bytesIn
+--   further history words  okFull, okLast, okFurther
+--   a card's words         firstTests, wordTests
+use Prim.Native.Nat.{ℕ, _-_, _/_, _%_, _^_}
+use mathlib.Core.Bool.{Bool, true, _&&_, not}
+use mathlib.Core.List.{List, [], _∷_}
+use lib.Dec.{eqb, ltb, leb}
+use lib.ListN.{length, getD, take, drop}
+use Rattle.words.specs.Base.{if_then_else_, allOf, isNil}
+use Rattle.library.specs.Check.{used, okByte}
+
+-- a byte's number is not below n, and is that of an entry that is not purged
+abbrev pub okNumber : List ℕ → ℕ → ℕ → Bool
+okNumber directory n b = leb n (b % 2 ^ 16) && okByte directory b
+
+abbrev pub okNumbers : List ℕ → ℕ → List ℕ → Bool
+okNumbers directory n [] = true
+okNumbers directory n (b ∷ bs) = okNumber directory n b && okNumbers directory (b % 2 ^ 16) bs
+
+-- the three bytes of a further history word
+abbrev pub bytesIn : ℕ → List ℕ
+bytesIn w = w / 2 ^ 36 % 2 ^ 18 ∷ w / 2 ^ 18 % 2 ^ 18 ∷ w % 2 ^ 18 ∷ []
+
+-- one with three bytes and nothing above them, and the last, with bit 59 and some bytes
+unfoldable pub okFull : List ℕ → ℕ → ℕ → Bool
+okFull directory n w = eqb (w / 2 ^ 54) 0 && okNumbers directory n (bytesIn w)
+
+unfoldable pub okLast : List ℕ → ℕ → ℕ → Bool
+okLast directory n w = eqb (w / 2 ^ 54) 32 && (not (isNil (used (bytesIn w))) && okNumbers directory n (used (bytesIn w)))
+
+abbrev pub okFurther : List ℕ → ℕ → List ℕ → Bool
+okFurther directory n [] = true
+okFurther directory n (w ∷ ws) = if isNil ws then okLast directory n w else (okFull directory n w && okFurther directory (w % 2 ^ 16) ws)
+
+-- "57-54 zero"; "Sequence numbers start at 1"; "The first byte .. is activating", and its number
+abbrev pub firstTests : List ℕ → ℕ → List Bool
+firstTests directory w =
+    eqb (w / 2 ^ 54 % 16) 0
+    ∷ ltb 0 (w / 2 ^ 18 % 2 ^ 18)
+    ∷ eqb (w / 2 ^ 16 % 2) 1
+    ∷ okNumber directory 1 (w % 2 ^ 18) ∷ []
+
+-- a card with k words ahead of its text: 64 bytes are one in the first word and three in each of 21 more
+abbrev pub wordTests : List ℕ → List ℕ → ℕ → List Bool
+wordTests directory ws k =
+    leb k 22
+    ∷ leb (getD ws 0 0 / 2 ^ 36 % 2 ^ 18) (length ws - k)
+    ∷ allOf (firstTests directory (getD ws 0 0))
+    ∷ okFurther directory (getD ws 0 0 % 2 ^ 16) (drop 1 (take k ws)) ∷ []
