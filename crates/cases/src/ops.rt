@@ -9,8 +9,8 @@ use crate::space::front_words;
 use crate::space::sum_bytes;
 use crate::space::sum_words;
 use packing::Packing;
-use words::Compressed;
-use words::Expanded;
+use text::Compressed;
+use text::Expanded;
 
 fn packing_answer(p: Packing, room: &[u8]) -> Answer {
     let sum = sum_bytes(room);
@@ -71,13 +71,13 @@ fn compress(head: Head, bytes: &[u8]) -> Answer {
         return Answer::Beyond;
     }
     let mut text = [0u64; 16];
-    let c = words::compress(&bytes[..n], &mut text);
+    let c = text::compress(&bytes[..n], &mut text);
     match c {
         Compressed::Words(count) => {
             let k = front_text(count, &text);
             Answer::Numbers(0, count as u64, 0, sum_words(&text[..k]))
         }
-        _ => Answer::Numbers(words::compressed_number(c), 0, 0, 0),
+        _ => Answer::Numbers(text::compressed_number(c), 0, 0, 0),
     }
 }
 
@@ -87,13 +87,13 @@ fn expand(head: Head, words: &[u64]) -> Answer {
         return Answer::Beyond;
     }
     let mut line = [0u8; 80];
-    let e = words::expand(&words[..n], &mut line);
+    let e = text::expand(&words[..n], &mut line);
     match e {
         Expanded::Columns(count) => {
             let k = front_line(count, &line);
             Answer::Numbers(0, count as u64, 0, sum_bytes(&line[..k]))
         }
-        Expanded::NoText => Answer::Numbers(words::expanded_number(e), 0, 0, 0),
+        Expanded::NoText => Answer::Numbers(text::expanded_number(e), 0, 0, 0),
     }
 }
 

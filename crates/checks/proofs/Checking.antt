@@ -39,11 +39,11 @@ use Rattle.rows.proofs.Placing.{all-pass}
 use Rattle.rows.proofs.Tabling.{sized, tabled}
 use Rattle.rows.proofs.Seeing.{found-none}
 use Rattle.rows.proofs.Listing.{entries-are}
-use Rattle.image.specs.Bytes.{part, flagged}
-use Rattle.image.specs.Flags.{namesIn, settledFlags}
-use Rattle.image.proofs.Settling.{Lower}
+use Rattle.yanked.specs.Bytes.{part, flagged}
+use Rattle.yanked.specs.Flags.{namesIn, settledFlags}
+use Rattle.yanked.proofs.Settling.{Lower}
 use Rattle.image.specs.Places.{placesIn}
-use Rattle.image.proofs.Passing.{Known, names-known, AllAt, settled-is}
+use Rattle.yanked.proofs.Passing.{Known, names-known, AllAt, settled-is}
 use Rattle.checks.specs.Walks.{Walk, Spans}
 use Rattle.checks.specs.Rows.{Row7, CardsEnd, Row8, Row10, RowBits, afterDecks, CardsOf, AfterCards, AfterRows}
 use Rattle.checks.proofs.Walking.{read-walks}

@@ -15,11 +15,11 @@ use lib.Seq.{take-nil, drop-nil, take-take, drop-drop, getD-take, getD-drop}
 use Rattle.words.specs.Base.{if_then_else_, placeFrom}
 use Rattle.words.specs.Text.{isText}
 use Rattle.library.specs.Check.{Stored, Fields, fieldsOf, storedOf, cardOf, isLastWord, rawBytes, used, okForm}
-use Rattle.image.specs.Bytes.{part, flagged}
+use Rattle.yanked.specs.Bytes.{part, flagged}
 use Rattle.image.specs.Places.{nextAt, seenAt, placesIn}
-use Rattle.image.specs.Flags.{inForce}
+use Rattle.yanked.specs.Flags.{inForce}
 use Rattle.image.proofs.Standing.{places-more, places-end}
-use Rattle.image.proofs.Passing.{CardAt, AllAt}
+use Rattle.yanked.proofs.Passing.{CardAt, AllAt}
 use Rattle.checks.specs.Walks.{Walk, Spans}
 use Rattle.checks.proofs.Spanning.{span-rises}
 use Rattle.checks.proofs.Showing.{shown-next, shown-owner, shown-line}

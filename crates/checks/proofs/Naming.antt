@@ -19,8 +19,8 @@ use Rattle.library.specs.Check.{Stored, okTarget, okYank}
 use Rattle.library.proofs.EntryNames.{name-entry}
 use Rattle.library.proofs.Directories.{entry-some}
 use Rattle.image.specs.Places.{seenAt, lineIn}
-use Rattle.image.proofs.Marking.{names-yank}
-use Rattle.image.proofs.Passing.{named-targets}
+use Rattle.yanked.proofs.Marking.{names-yank}
+use Rattle.yanked.proofs.Passing.{named-targets}
 use Rattle.checks.specs.Walks.{Walk}
 use Rattle.checks.specs.Rows.{okName, okParam, okYankLine}
 use Rattle.library.specs.declared.Seen.{Seen}

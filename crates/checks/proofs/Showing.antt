@@ -18,7 +18,7 @@ use Rattle.lines.proofs.Readings.{and-right}
 use Rattle.library.specs.Image.{headWords}
 use Rattle.library.specs.Check.{Stored, Fields, fieldsOf, cardOf, isLastWord, threes, rawBytes, used, byteOf, firstActivates, formTests}
 use Rattle.checks.specs.Walks.{Walk}
-use Rattle.image.specs.Bytes.{part}
+use Rattle.yanked.specs.Bytes.{part}
 use Rattle.library.specs.declared.Seen.{Seen}
 use Rattle.image.specs.Places.{textFrom, textAt, nextAt, seenAt, textOf, lineIn}
 use Rattle.image.proofs.Standing.{text-at}

@@ -19,13 +19,13 @@ use Rattle.library.specs.Image.{bit, byteBits}
 use Rattle.library.specs.Check.{Stored, Fields, fieldsOf, cardOf, threes, rawBytes, used, byteOf, rising, firstActivates, formTests, okBits}
 use Rattle.image.specs.Places.{seenAt}
 use Rattle.checks.specs.Walks.{Walk}
-use Rattle.image.specs.Bytes.{part, sayAll}
+use Rattle.yanked.specs.Bytes.{part, sayAll}
 use Rattle.checks.specs.Rows.{okBit, okCardBits}
 use Rattle.library.specs.declared.Seen.{Seen}
 use Rattle.library.proofs.Each.{each-map}
 use Rattle.rows.proofs.Placing.{all-pass}
 use Rattle.library.proofs.Anys.{no-true}
-use Rattle.image.proofs.Weighing.{say-used}
+use Rattle.yanked.proofs.Weighing.{say-used}
 use Rattle.checks.proofs.Showing.{shown-heads, shown-act}
 
 -- UNUSED BYTES

@@ -10,9 +10,9 @@ use lib.ListN.{length, getD}
 use borrow.Author.Tests.{eq-eqb, ne-eqb}
 use Rattle.words.specs.Base.{all}
 use Rattle.library.specs.Check.{threes, rawBytes}
-use Rattle.image.specs.Bytes.{part}
+use Rattle.yanked.specs.Bytes.{part}
 use Rattle.checks.specs.Rows.{okBit}
-use Rattle.image.proofs.Weighing.{part-cons, part-none}
+use Rattle.yanked.proofs.Weighing.{part-cons, part-none}
 
 pub all-fails : {A : Type 0} (q : A → Bool) (x : A) (xs : List A) → q x ≡ false → false ≡ all q (x ∷ xs)
 all-fails q x xs e = sym (ap (λ (b : Bool). b && all q xs) e)

@@ -23,8 +23,8 @@ use Rattle.library.specs.declared.Checked.{Checked}
 use Rattle.library.specs.declared.Fault.the-variants.{Yank as YankFault, Bit, Twice}
 use Rattle.library.specs.declared.DeckLine.{DeckLine as DeckAnswer}
 use Rattle.library.specs.declared.DeckLine.the-variants.{NotDeck, BadDeck, Deck, Common}
-use Rattle.image.specs.Bytes.{part, flagged, sayAll}
-use Rattle.image.specs.Flags.{settledFlags}
+use Rattle.yanked.specs.Bytes.{part, flagged, sayAll}
+use Rattle.yanked.specs.Flags.{settledFlags}
 use Rattle.rows.specs.Found.{found, cardsRead}
 use Rattle.checks.specs.Walks.{Walks, Spans}
 

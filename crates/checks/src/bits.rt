@@ -6,14 +6,14 @@ ghost use Prim.Native.Nat.{_/_, _%_, _^_, _≤_, _<_};
 ghost use lib.ListN.{length};
 ghost use Rattle.words.specs.Base.{all};
 ghost use Rattle.library.specs.Check.{rawBytes};
-ghost use Rattle.image.specs.Bytes.{part, flagged};
+ghost use Rattle.yanked.specs.Bytes.{part, flagged};
 ghost use Rattle.checks.specs.Rows.{okBit, okCardBits, Row9};
 use image::FIELD;
-use image::FIRST_BYTE;
 use image::NUMBER;
-use image::SECOND_BYTE;
 use library::Found;
 use library::Seen;
+use yanked::FIRST_BYTE;
+use yanked::SECOND_BYTE;
 
 // of a byte, bit 17
 const YANKED: u64 = 0o400000;
@@ -24,7 +24,7 @@ fn bit_ok(flags: &[u64], b: u64) -> bool
     if b == 0 {
         return true;
     }
-    if image::is_flagged(flags, b % NUMBER) {
+    if yanked::is_flagged(flags, b % NUMBER) {
         return b / YANKED == 1;
     }
     b / YANKED != 1
@@ -70,7 +70,7 @@ fn card_bits_ok(image: &[u64], at: usize, c: Seen, flags: &[u64]) -> bool
     ensures { λ r. ⌜ r ≡ okCardBits (flagged (now (flags .entry))) (c .active) (rawBytes (part at (c .text) (now (image .entry)))) ⌝ }
 {
     let text = c.text;
-    if !agree(c.active, image::is_active(image, at, text, flags)) {
+    if !agree(c.active, yanked::is_active(image, at, text, flags)) {
         return false;
     }
     yank_bits_ok(image, at, text, flags)

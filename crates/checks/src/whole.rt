@@ -24,7 +24,7 @@ fn stored_fault(image: &[u64], directory: &[u64], from: usize, end: usize) -> Fo
     ensures { λ r. ⌜ RowBits (now (directory .entry)) (now (image .entry)) from end r ⌝ }
 {
     let mut flags = [0u64; FLAGS];
-    image::settle(directory, &image[from..end], &mut flags);
+    yanked::settle(directory, &image[from..end], &mut flags);
     bits_fault(image, from, &flags)
 }
 

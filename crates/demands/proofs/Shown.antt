@@ -2,7 +2,8 @@
 use Rattle.words.specs.Display.{codeOf, letter}
 use Rattle.words.specs.Names.{isName, nameWord, nameOf, isNameWord, wordOfName, nameLength, nameInto, isNumber, numberRead, numeral, leftJustified, rightJustified, numberInto}
 use Rattle.packing.specs.Pack.{packing, unpacking, left, packingEights, unpackingEights}
-use Rattle.words.specs.Text.{blanks, wordsOf, textWords, compressing, compressInto, says, isText, expanding, expandInto}
+use Rattle.words.specs.Text.{blanks, wordsOf, textWords, says, isText}
+use Rattle.text.specs.Answers.{compressing, compressInto, expanding, expandInto}
 use Rattle.lines.specs.Directive.{lineOf, afterLine, lines, kindOf, nameOfLine, kindOfLine, field, isClean, isCard, cardOf, asked, directive, yankNames, callOf}
 use Rattle.library.specs.Check.{check}
 use Rattle.library.specs.Image.{cardWords, encode, withinLimits}

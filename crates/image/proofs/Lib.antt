@@ -1,15 +1,6 @@
-pub mod Weighing
-pub mod Adding
-pub mod Settling
 pub mod Standing
 pub mod Starred
 pub mod Rows
 pub mod Writing
-pub mod Marking
-pub mod Chaining
-pub mod NameTree
 pub mod Written
 pub mod Ending
-pub mod Encoded
-pub mod Passing
-pub mod Yanking

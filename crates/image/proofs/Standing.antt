@@ -13,8 +13,9 @@ use lib.Dec.{ltb, leb, leb→le}
 use lib.ListN.{length, getD, take, drop, length-append, length-drop, drop-of-length-le}
 use lib.Seq.{drop-cons, take-at}
 use Rattle.words.specs.Base.{if_then_else_}
-use Rattle.words.specs.Text.{says, isText, textWords, wordsOf, expanding, expandInto}
-use Rattle.words.specs.declared.Expanded.the-variants.{Columns, NoText}
+use Rattle.words.specs.Text.{says, isText, textWords, wordsOf}
+use Rattle.text.specs.Answers.{expanding, expandInto}
+use Rattle.text.specs.declared.Expanded.the-variants.{Columns, NoText}
 use Rattle.words.proofs.Tests.{true-T}
 use Rattle.library.specs.Check.{isLastWord}
 use Rattle.image.specs.Places.{textFrom, textAt, nextAt, textOf, lineIn, lineInto, placesFrom, placesIn}

@@ -1,7 +1,7 @@
 -- What stands at a place where the words of a sound card stand. Assumes nothing.
 --   inside, next-is, after, some-words                     its words
 --   owner-is, seq-is, active-is, line-is, title-is         what is seen of it
---   force-is                                               its activity under any flags
+--   low, raw-is                                            its bytes
 use Prim.Native.Nat.{ℕ, suc, _+_, _-_, _*_, _/_, _%_, _^_, _≤_, _<_}
 use native.Mathlib.Omega.{arith}
 use native.Mathlib.Nat.{add-zero}
@@ -9,7 +9,7 @@ use mathlib.Core.Path.{_≡_, refl, sym, ap, _∙_}
 use mathlib.Core.Bool.{Bool, true, false}
 use mathlib.Core.List.{List, [], _∷_, _++_, map, append-assoc}
 use mathlib.Core.Option.{some}
-use borrow.Author.Tests.{le-leb, ne-eqb}
+use borrow.Author.Tests.{le-leb}
 use lib.Dec.{T, eqb, leb→le}
 use lib.ListN.{length, getD, take, drop, length-append, length-drop}
 use lib.Seq.{take-at, drop-at, drop-drop, getD-drop}
@@ -20,19 +20,16 @@ use Rattle.words.proofs.Tests.{T-true, same-eq}
 use Rattle.words.proofs.TextTrip.{says-written, written-is-text, written-fits}
 use Rattle.library.specs.Each.{Each}
 use Rattle.library.specs.Library.{Byte, Card, deckLine, history}
-use Rattle.library.specs.Yanks.{lastSays, active}
+use Rattle.library.specs.Yanks.{active}
 use Rattle.library.specs.Image.{bit, byteBits, cardWords}
 use Rattle.library.specs.Check.{isLastWord, rawBytes, used, Fields, fieldsOf}
-use Rattle.image.specs.Bytes.{flagged, sayByte, sayAll}
 use Rattle.library.specs.Sound.{lineTests, soundLine, isNamed, SoundCard}
 use Rattle.library.proofs.Each.{each-map, all-each, allOf-each}
 use Rattle.library.proofs.EntryNames.{is-named}
-use Rattle.library.proofs.BytesBack.{Low, number-back, flag-back, raw-bytes}
+use Rattle.library.proofs.BytesBack.{Low, number-back, raw-bytes}
 use Rattle.library.proofs.FieldsBack.{Raw, count-back, head-end, fields-back}
 use Rattle.library.proofs.ReadBack.{LineSays, rawOf, headOf}
-use Rattle.image.proofs.Weighing.{say-used}
 use Rattle.image.specs.Places.{textFrom, textAt, nextAt, seenAt, textOf, lineIn, titleOf, titleIn}
-use Rattle.image.specs.Flags.{inForce}
 use Rattle.image.proofs.Standing.{text-at, next-inside}
 use Rattle.image.proofs.Rows.{titleAt}
 
@@ -51,18 +48,6 @@ line-says l t =
     let q = allOf-each (lineTests l) t in
     record { charted = T-true (all inChart l) (q .0); short = leb→le (length l) 80 (q .1 .0); trimmed = same-eq (trim l) l (q .1 .1 .0) }
 
--- bytes as they are stored say what the history says
-say-written : (yk f : ℕ → Bool) (so : Bool) (bs : List Byte) → Each Low bs → sayAll f so (map (byteBits yk) bs) ≡ lastSays f so bs
-say-written yk f so [] h = refl
-say-written yk f so (b ∷ bs) h =
-    let n : byteBits yk b % 2 ^ 16 ≡ b .number = number-back yk b (h .0) in
-    let pos : 0 < b .number = h .0 .0 in
-    let some : byteBits yk b ≡ 0 → ⊥ = λ e. omega arith in
-    let one : sayByte f so (byteBits yk b) ≡ (if f (b .number) then so else (b .activating)) =
-    ap (λ (z : Bool). if z then so else if f (byteBits yk b % 2 ^ 16) then so else eqb (byteBits yk b / 2 ^ 16 % 2) 1) (ne-eqb (byteBits yk b) 0 some)
-    ∙ (λ i. if f (n i) then so else flag-back yk b (h .0) i) in
-    ap (λ (o : Bool). sayAll f o (map (byteBits yk) bs)) one ∙ say-written yk f (if f (b .number) then so else (b .activating)) bs (h .1)
-
 -- A CARD: its words stand at a place
 module _ (directory ws : List ℕ) (entries : length directory ≤ 1023) where
   module _ (yk : ℕ → Bool) (c : Card) (sound : SoundCard directory c) (at : ℕ) (rest : List ℕ) (stands : drop at ws ≡ cardWords yk c ++ rest) where
@@ -72,7 +57,7 @@ module _ (directory ws : List ℕ) (entries : length directory ≤ 1023) where
     abbrev first : Byte
     first = record { number = c .owner; activating = true }
 
-    low : Each Low (history c)
+    pub low : Each Low (history c)
     low = each-map _ _ (λ b t. let q = is-named directory (b .number) t in (q .above, omega (arith, q .within))) (history c) (all-each (λ b. isNamed directory (b .number)) (history c) (sound .named))
 
     raw : Raw (rawOf yk c)
@@ -174,11 +159,7 @@ module _ (directory ws : List ℕ) (entries : length directory ≤ 1023) where
     unfolding titleIn
     title-is = ap (λ (l : List ℕ). titleOf (deckLine l)) line-is
 
-    pub force-is : (flags : List ℕ) → inForce ws flags at ≡ lastSays (flagged flags) false (history c)
-    unfolding inForce
-    force-is flags =
+    pub raw-is : used (rawBytes (take (textAt ws at - at) (drop at ws))) ≡ rawOf yk c
+    raw-is =
         let k : textAt ws at - at ≡ length (headOf yk c) = omega (arith, text-is) in
-        let bytes : used (rawBytes (take (textAt ws at - at) (drop at ws))) ≡ rawOf yk c =
-        ap (λ (n : ℕ). used (rawBytes (take n (drop at ws)))) k ∙ ap (λ (f : Fields). f .raw) fields in
-        sym (say-used (flagged flags) false (rawBytes (take (textAt ws at - at) (drop at ws)))) ∙ ap (sayAll (flagged flags) false) bytes
-        ∙ say-written yk (flagged flags) false (history c) low
+        ap (λ (n : ℕ). used (rawBytes (take n (drop at ws)))) k ∙ ap (λ (f : Fields). f .raw) fields

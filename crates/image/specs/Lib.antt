@@ -1,5 +1,1 @@
-pub mod Bytes
 pub mod Places
-pub mod Flags
-pub mod Names
-pub mod Ran

@@ -6,7 +6,7 @@ ghost use lib.ListN.{length, getD};
 ghost use Rattle.words.specs.Base.{if_then_else_};
 ghost use Rattle.image.specs.Places.{textAt, seenAt, starAt, lineIn, lineInto};
 use library::Seen;
-use words::Expanded;
+use text::Expanded;
 
 // the most columns of a line
 pub const COLUMNS: usize = 80;
@@ -52,7 +52,8 @@ fn text_at(image: &[u64], at: usize) -> usize
     image.len()
 }
 
-pub(crate) fn least(a: usize, b: usize) -> usize
+// The lesser of two places.
+pub fn least(a: usize, b: usize) -> usize
     ensures { λ r. ⌜ r ≡ (if leb a b then a else b) ⌝ }
     ensures { λ r. ⌜ (r ≤ a) × (r ≤ b) ⌝ }
 {
@@ -95,7 +96,7 @@ pub fn line_of(image: &[u64], from: usize, to: usize, line: &mut [u8; COLUMNS]) 
     if to < from {
         return 0;
     }
-    match words::expand(&image[from..to], line) {
+    match text::expand(&image[from..to], line) {
         Expanded::Columns(n) => n,
         Expanded::NoText => 0,
     }

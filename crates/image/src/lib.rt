@@ -1,14 +1,11 @@
-// An image read as it stands, whatever its words: its cards, the table of its decks, the flags of its yanked sets, the numbers of names.
+// An image read as it stands, whatever its words: its cards, the table of its decks.
 mod cards;
 mod decks;
-mod flags;
-mod force;
-mod marks;
-mod names;
 
 pub use cards::COLUMNS;
 pub use cards::FIELD;
 pub use cards::NUMBER;
+pub use cards::least;
 pub use cards::line_of;
 pub use cards::see;
 pub use cards::star_at;
@@ -23,12 +20,3 @@ pub use decks::cards_place;
 pub use decks::deck_at;
 pub use decks::deck_end;
 pub use decks::put_table;
-pub use flags::settle;
-pub use force::FIRST_BYTE;
-pub use force::SECOND_BYTE;
-pub use force::is_active;
-pub use force::is_flagged;
-pub use marks::entry_of;
-pub use names::ALL_WAYS;
-pub use names::entry_by;
-pub use names::plant;

@@ -22,11 +22,11 @@ use Rattle.library.proofs.CheckSound.{check-sound}
 use Rattle.library.proofs.CheckEncode.{check-encode}
 use Rattle.rows.specs.Found.{Tabled}
 use Rattle.rows.proofs.Tabling.{tabled}
-use Rattle.image.specs.Bytes.{part, flagged}
+use Rattle.yanked.specs.Bytes.{part, flagged}
 use Rattle.image.specs.Places.{deckEnd}
-use Rattle.image.specs.Flags.{settledFlags}
-use Rattle.image.proofs.Encoded.{yanks-part}
-use Rattle.image.proofs.Yanking.{settled-yanked}
+use Rattle.yanked.specs.Flags.{settledFlags}
+use Rattle.yanked.proofs.Encoded.{yanks-part}
+use Rattle.yanked.proofs.Yanking.{settled-yanked}
 use Rattle.checks.specs.Walks.{Spans}
 use Rattle.checks.proofs.Walking.{read-walks}
 use Rattle.checks.proofs.Spanning.{walks-span}

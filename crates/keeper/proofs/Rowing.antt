@@ -16,7 +16,7 @@ use lib.Seq.{take-append-add, take-at, drop-at, drop-drop, set-at}
 use Rattle.words.specs.Base.{if_then_else_}
 use Rattle.words.specs.Display.{blank}
 use Rattle.words.specs.Names.{nameOf, isNameWord, nameInto, leftJustified}
-use Rattle.image.specs.Bytes.{flagged}
+use Rattle.yanked.specs.Bytes.{flagged}
 use Rattle.keeper.specs.Keeper.{firstRows, purgedOr, yankMark}
 use Rattle.keeper.specs.Parts.{wordName, rowBytes, rowAt}
 use Rattle.keeper.proofs.Pointing.{name-few}

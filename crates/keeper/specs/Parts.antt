@@ -14,7 +14,7 @@ use Rattle.words.specs.Names.{nameOf, isNameWord, numeral, leftJustified}
 use Rattle.library.specs.Library.{Library, deckLine}
 use Rattle.library.specs.Check.{Stored, good, check, directoryCount}
 use Rattle.library.specs.Asked.{deckLineOf}
-use Rattle.image.specs.Bytes.{flagged}
+use Rattle.yanked.specs.Bytes.{flagged}
 use Rattle.checks.specs.Walks.{Spans}
 use Rattle.library.specs.declared.DeckLine.{DeckLine}
 use Rattle.library.specs.declared.DeckLine.the-variants.{NotDeck, BadDeck, Deck, Common}

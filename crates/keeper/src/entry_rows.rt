@@ -6,9 +6,9 @@ ghost use lib.Dec.{eqb};
 ghost use lib.ListN.{length, drop};
 ghost use Rattle.library.specs.Check.{directoryCount, directoryOf};
 ghost use Rattle.rows.specs.Found.{Sized, Tabled};
-ghost use Rattle.image.specs.Bytes.{part};
+ghost use Rattle.yanked.specs.Bytes.{part};
 ghost use Rattle.image.specs.Places.{deckEnd};
-ghost use Rattle.image.specs.Flags.{settledFlags};
+ghost use Rattle.yanked.specs.Flags.{settledFlags};
 ghost use Rattle.keeper.specs.Keeper.{listed, listing, told, showInto, firstRows, purgedOr, yankMark};
 ghost use Rattle.keeper.specs.Parts.{AnswersOf, RowsOf, rowBytes, rowAt};
 use crate::Told;
@@ -89,7 +89,7 @@ fn put_flags(image: &[u64], directory: &[u64], from: usize, flags: &mut [u64])
     ensures { λ _. ⌜ now (flags .exit) ≡ settledFlags (now (directory .entry)) (part from (deckEnd (now (image .entry)) from) (now (image .entry))) (length (now (flags .entry))) ⌝ }
 {
     let end = image::deck_end(image, from);
-    image::settle(directory, &image[from..end], flags);
+    yanked::settle(directory, &image[from..end], flags);
 }
 
 // The rows of an image with this directory that the check accepts.

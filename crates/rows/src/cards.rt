@@ -222,7 +222,7 @@ pub(crate) fn cards_fault(image: &[u64]) -> Checked
             Found::Nothing => return Checked::Refused(Fault::Form, at),
             Found::At(text) => {
                 let next = text + (image[at] / TEXT % FIELD) as usize;
-                if !words::is_text(&image[text..next]) {
+                if !text::is_text(&image[text..next]) {
                     return Checked::Refused(Fault::Text, at);
                 }
                 at = next;

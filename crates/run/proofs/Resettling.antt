@@ -18,8 +18,8 @@ use Rattle.library.proofs.Each.{each-map}
 use Rattle.library.proofs.Anys.{any-false}
 use Rattle.library.proofs.Acts.{sound-lower}
 use Rattle.library.proofs.Flags.{yankList, flags, yanked-rule}
-use Rattle.image.specs.Flags.{settledFlags}
-use Rattle.image.proofs.Yanking.{settled-yanked}
+use Rattle.yanked.specs.Flags.{settledFlags}
+use Rattle.yanked.proofs.Yanking.{settled-yanked}
 use Rattle.corrections.specs.Step.{State}
 use Rattle.run.specs.SettledBits.{flagged}
 use Rattle.run.specs.Work.{Work, Resettles}

@@ -116,7 +116,7 @@ pub(crate) fn resettle(w: &mut [u64], dir: &[u64], flags: &mut [u64], d: Desk)
 {
     let n = d.entries;
     let lead = d.lead;
-    image::settle(&dir[..n], &w[..lead], flags);
+    yanked::settle(&dir[..n], &w[..lead], flags);
     flags[0] = 0;
     let g = d.gap;
     settle_all(w, g, flags);

@@ -5,11 +5,11 @@ use native.Mathlib.Numerals.{add-one}
 use native.Mathlib.Nat.{pow-suc, pow-le-pow-right}
 use mathlib.Core.Path.{_≡_, refl, sym, ap, ap₂, _∙_}
 use mathlib.Core.Bool.{Bool, true, false, _&&_}
-use mathlib.Core.List.{List, _∷_, _++_, append-nil}
+use mathlib.Core.List.{List, [], _∷_, _++_, append-nil}
 use borrow.Author.Tests.{lt-ltb, le-ltb, le-leb, lt-leb}
 use lib.Dec.{ltb, lit<}
-use lib.ListN.{length, getD, take, drop, set, replicate, drop-of-length-le}
-use lib.Seq.{drop-cons, set-split, drop-at, length-take-le}
+use lib.ListN.{length, getD, take, drop, set, replicate, drop-of-length-le, replicate-append-replicate}
+use lib.Seq.{drop-cons, set-split, drop-at, length-take-le, take-suc-set}
 use Rattle.words.specs.Base.{if_then_else_, all}
 use Rattle.words.specs.Display.{blank}
 use Rattle.words.specs.Names.{isDigit, decimal, isNumber, numberRead, digits, numeral, rightJustified, numberFits, numberInto}
@@ -112,6 +112,11 @@ pub record Writes (n : ℕ) (d : List ℕ) (m i : ℕ) : Type 0 where
   pub owed : Digits d m i ≡ numeral n
 
 -- RIGHT JUSTIFIED
+-- one blank more at a field's front
+pub gap-more : (d : List ℕ) (i : ℕ) → i < length d → take i d ≡ replicate i blank → take (i + 1) (set d i blank) ≡ replicate (i + 1) blank
+gap-more d i h e =
+    rw add-one (take-suc-set d i blank h) ∙ ap (λ (r : List ℕ). r ++ (blank ∷ [])) e ∙ replicate-append-replicate i 1 blank
+
 module _ (n : ℕ) (d : List ℕ) where
   pub too-narrow : length d < length (numeral n) → (false ≡ numberFits n (length d)) × (d ≡ numberInto n d)
   unfolding numberInto
@@ -123,10 +128,10 @@ module _ (n : ℕ) (d : List ℕ) where
   wide-enough t h q = let e = le-leb (length (numeral n)) (length d) h in (sym e, rw e q)
 
   -- blanks put at the field's front make e of it, and the digits behind them t
-  pub justified : (e t p : List ℕ) (gap k : ℕ) → p ≡ numeral n → length p ≤ length d → k ≡ length d - length p → gap ≡ k → length e ≡ length d
-      → take gap e ≡ replicate k blank → t ≡ take gap e ++ p ++ drop (gap + length p) e → (true ≡ numberFits n (length d)) × (t ≡ numberInto n d)
-  justified e t p gap k is fits kk g long front q =
+  pub justified : (e t p : List ℕ) (gap : ℕ) → p ≡ numeral n → length p ≤ length d → gap ≡ length d - length p → length e ≡ length d
+      → take gap e ≡ replicate gap blank → t ≡ take gap e ++ p ++ drop (gap + length p) e → (true ≡ numberFits n (length d)) × (t ≡ numberInto n d)
+  justified e t p gap is fits g long front q =
       let out : length e ≤ gap + length p = omega arith in
       wide-enough t (rw is at fits)
       (q ∙ ap (λ (r : List ℕ). take gap e ++ p ++ r) (drop-of-length-le e out) ∙ append-nil (take gap e ++ p)
-      ∙ ap₂ _++_ (front ∙ ap (λ (j : ℕ). replicate j blank) (kk ∙ ap (λ (r : List ℕ). length d - length r) is)) is)
+      ∙ ap₂ _++_ (front ∙ ap (λ (j : ℕ). replicate j blank) (g ∙ ap (λ (r : List ℕ). length d - length r) is)) is)

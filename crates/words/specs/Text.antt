@@ -2,20 +2,15 @@
 --   without trailing blanks      trim
 --   line to codes                blanks, squeeze, compress
 --   codes to words and back      wordsOf, allCodes
---   line to words                textWords, isLine, compressing, compressInto
---   words to line                columnsOf, says, isText, expanding, expandInto
---   01's numbers                 compressedNumber, expandedNumber
+--   line to words                textWords
+--   words to line                columnsOf, says, isText
 use Prim.Native.Nat.{ℕ, zero, suc, _+_, _-_, _*_, _/_, _%_, _^_}
-use mathlib.Core.Bool.{Bool, true, false, _&&_, not}
+use mathlib.Core.Bool.{Bool, _&&_}
 use mathlib.Core.List.{List, [], _∷_, _++_, map}
 use lib.Dec.{eqb, ltb, leb}
-use lib.ListN.{length, replicate, drop}
-use Rattle.words.specs.Base.{if_then_else_, all, same, isNil}
-use Rattle.words.specs.Display.{codeOf, inChart, letter, blank}
-use Rattle.words.specs.declared.Compressed.{Compressed}
-use Rattle.words.specs.declared.Compressed.the-variants.{Words, Outside, Long}
-use Rattle.words.specs.declared.Expanded.{Expanded}
-use Rattle.words.specs.declared.Expanded.the-variants.{Columns, NoText}
+use lib.ListN.{length, replicate}
+use Rattle.words.specs.Base.{if_then_else_, same, isNil}
+use Rattle.words.specs.Display.{codeOf, letter, blank}
 
 -- "Trailing blanks are dropped"
 abbrev pub trim : List ℕ → List ℕ
@@ -75,16 +70,6 @@ allCodes (w ∷ ws) = lowCodes 10 w (allCodes ws)
 unfoldable pub textWords : List ℕ → List ℕ
 textWords l = wordsOf (compress (map codeOf (trim l)))
 
--- "Lines are 0 to 80 columns" of the character set; 20 looks at the whole line ahead of 21
-unfoldable pub compressing : List ℕ → Compressed
-compressing l =
-    if not (all inChart l) then Outside
-    else if ltb 80 (length l) then Long
-    else Words (length (textWords l))
-
-unfoldable pub compressInto : List ℕ → List ℕ → List ℕ
-compressInto l space = elim (compressing l) [ Words n ↦ textWords l ++ drop n space | Outside ↦ space | Long ↦ space ]
-
 -- WORDS TO LINE: the columns that codes stand for. 0001 is a colon, 0002 to 0077 are 3 to 64 blanks, 0000 ends the line.
 abbrev pub pair : ℕ → List ℕ → List ℕ
 pair zero r = 0 ∷ r
@@ -104,19 +89,3 @@ says ws = map letter (columnsOf (allCodes ws))
 -- row 6: "Only this encoding is accepted"
 unfoldable pub isText : List ℕ → Bool
 isText ws = leb (length (says ws)) 80 && same (textWords (says ws)) ws
-
-unfoldable pub expanding : List ℕ → Expanded
-expanding ws = if isText ws then Columns (length (says ws)) else NoText
-
-unfoldable pub expandInto : List ℕ → List ℕ → List ℕ
-expandInto ws space = elim (expanding ws) [ Columns n ↦ says ws ++ drop n space | NoText ↦ space ]
-
--- 01'S NUMBERS
-abbrev pub compressedNumber : Compressed → ℕ
-compressedNumber (Words n) = 0
-compressedNumber Outside = 20
-compressedNumber Long = 21
-
-abbrev pub expandedNumber : Expanded → ℕ
-expandedNumber (Columns n) = 0
-expandedNumber NoText = 6

@@ -1,7 +1,7 @@
-// Columns of a line: of the set, without trailing blanks, written one after the other.
+// Columns of a line: of the set, without trailing blanks, blank, copied.
 ghost use mathlib.Core.Path.{_≡_};
-ghost use mathlib.Core.List.{[], _∷_, _++_};
-ghost use Prim.Native.Nat.{_+_, _≤_, _<_};
+ghost use mathlib.Core.List.{_++_};
+ghost use Prim.Native.Nat.{_+_, _≤_};
 ghost use lib.ListN.{length, take, drop, replicate};
 ghost use Rattle.words.specs.Base.{all};
 ghost use Rattle.words.specs.Display.{inChart};
@@ -36,29 +36,16 @@ pub fn trimmed(line: &[u8]) -> &[u8]
     &line[..n]
 }
 
-pub(crate) fn put_column(b: u8, line: &mut [u8], at: usize) -> usize
-    requires { ⌜ at < length (now line) ⌝ }
-    ensures { λ r. ⌜ r ≡ at + 1 ⌝ }
-    ensures { λ r. ⌜ take r (now (line .exit)) ≡ take at (now (line .entry)) ++ (b ∷ []) ⌝ }
-    ensures { λ r. ⌜ drop r (now (line .exit)) ≡ drop r (now (line .entry)) ⌝ }
+// Blanks in the first n columns.
+pub(crate) fn put_gap(n: usize, line: &mut [u8])
+    requires { ⌜ n ≤ length (now line) ⌝ }
+    ensures { λ _. ⌜ take n (now (line .exit)) ≡ replicate n 32 ⌝ }
 {
-    line[at] = b;
-    at + 1
-}
-
-pub(crate) fn put_columns(b: u8, n: usize, line: &mut [u8], at: usize) -> usize
-    requires { ⌜ at + n ≤ length (now line) ⌝ }
-    ensures { λ r. ⌜ r ≡ at + n ⌝ }
-    ensures { λ r. ⌜ take r (now (line .exit)) ≡ take at (now (line .entry)) ++ replicate n b ⌝ }
-    ensures { λ r. ⌜ drop r (now (line .exit)) ≡ drop r (now (line .entry)) ⌝ }
-{
-    let end = at + n;
-    let mut i = at;
-    while i < end {
-        line[i] = b;
+    let mut i = 0;
+    while i < n {
+        line[i] = BLANK;
         i += 1;
     }
-    i
 }
 
 pub(crate) fn put_bytes(from: &[u8], to: &mut [u8], at: usize)

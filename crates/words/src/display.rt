@@ -8,7 +8,10 @@ ghost use Rattle.words.specs.Display.{codeOf, letter, lettersAt, codesAt
 // how many codes there are, and the answer for a byte outside the character set
 pub(crate) const SET: u8 = 64;
 
-pub(crate) const BLANK: u8 = b' ';
+// as many, where a code is a place
+const CODES: usize = 64;
+
+pub const BLANK: u8 = b' ';
 
 // the bytes of the set lie between these
 const LEAST: u8 = 32;
@@ -16,7 +19,7 @@ const LEAST: u8 = 32;
 const MOST: u8 = 95;
 
 // a blank's code
-pub(crate) const GAP: u8 = 0o55;
+pub const GAP: u8 = 0o55;
 
 // The codes of eight bytes from 32 + 8 k on, the first lowest.
 fn codes_at(k: u8) -> u64
@@ -66,19 +69,18 @@ fn letters_at(k: usize) -> u64
     }
 }
 
-pub(crate) fn letter_in(c: usize) -> u8
-    requires { ⌜ c < 64 ⌝ }
+// A code's letter; a blank where it is no code.
+pub fn letter_in(c: usize) -> u8
     ensures { λ r. ⌜ r ≡ letter c ⌝ }
 {
+    if CODES <= c {
+        return BLANK;
+    }
     ((letters_at(c / 8) >> (c % 8 * 8)) % 256) as u8
 }
 
 pub fn letter_of(c: u8) -> u8
     ensures { λ r. ⌜ r ≡ letter c ⌝ }
 {
-    if c < SET {
-        letter_in(c as usize)
-    } else {
-        BLANK
-    }
+    letter_in(c as usize)
 }

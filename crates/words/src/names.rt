@@ -9,8 +9,7 @@ use crate::codes::code_in;
 use crate::codes::power;
 use crate::codes::wide;
 use crate::columns::put_bytes;
-use crate::columns::put_columns;
-use crate::display::BLANK;
+use crate::columns::put_gap;
 use crate::display::GAP;
 use crate::display::code_of;
 use crate::display::letter_of;
@@ -146,7 +145,8 @@ pub fn put_number(n: u64, field: &mut [u8]) -> bool
     if field.len() < count {
         return false;
     }
-    let gap = put_columns(BLANK, field.len() - count, field, 0);
+    let gap = field.len() - count;
+    put_gap(gap, field);
     put_bytes(&digits[start..], field, gap);
     true
 }

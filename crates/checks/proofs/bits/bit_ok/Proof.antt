@@ -1,7 +1,7 @@
 -- An unused byte passes, any other where bit 17 is the flag. Assumes nothing.
 use mathlib.Core.Path.{sym, _∙_}
 use Rattle.checks.proofs.Weighing.{bit-none, bit-flagged, bit-clear}
-use Rattle.image.specs.Bytes.{flagged}
+use Rattle.yanked.specs.Bytes.{flagged}
 use borrow.Author.Needs.{needs}
 use Rattle.checks.proofs.bits.bit_ok.Statement.{statement}
 use Rattle.checks.proofs.bits.bit_ok.Tie as tie

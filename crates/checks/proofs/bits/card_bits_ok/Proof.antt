@@ -4,7 +4,7 @@ use mathlib.Core.Bool.{Bool, _&&_, Bool·beq}
 use borrow.Author.Tests.{not-true, not-false}
 use Rattle.words.specs.Base.{all}
 use Rattle.library.specs.Check.{rawBytes}
-use Rattle.image.specs.Bytes.{part, flagged}
+use Rattle.yanked.specs.Bytes.{part, flagged}
 use Rattle.checks.specs.Rows.{okBit}
 use borrow.Author.Needs.{needs}
 use Rattle.checks.proofs.bits.card_bits_ok.Statement.{statement}

@@ -3,7 +3,7 @@ use mathlib.Core.Path.{sym, _∙_}
 use Prim.Native.Nat.{_/_, _%_, _^_}
 use mathlib.Core.List.{[], _∷_}
 use borrow.Author.Tests.{not-true, not-false}
-use Rattle.image.specs.Bytes.{flagged}
+use Rattle.yanked.specs.Bytes.{flagged}
 use Rattle.checks.specs.Rows.{okBit}
 use Rattle.checks.proofs.Weighing.{all-fails, all-passes, and-true}
 use borrow.Author.Needs.{needs}

@@ -4,7 +4,7 @@ use Prim.Native.Nat.{_≤_, _-_}
 use borrow.Author.Tests.{not-true, not-false}
 use Rattle.words.specs.Base.{all}
 use Rattle.library.specs.Check.{threes, rawBytes}
-use Rattle.image.specs.Bytes.{part, flagged}
+use Rattle.yanked.specs.Bytes.{part, flagged}
 use Rattle.checks.specs.Rows.{okBit}
 use Rattle.checks.proofs.Weighing.{bits-start, bits-not, bits-on, bits-here, bits-end}
 use borrow.Author.Needs.{needs}

@@ -3,7 +3,7 @@ use mathlib.Core.Path.{ap, _∙_}
 use mathlib.Core.List.{List}
 use Prim.Native.Nat.{ℕ}
 use Rattle.library.specs.Check.{firstFailing, okBits}
-use Rattle.image.specs.Bytes.{flagged}
+use Rattle.yanked.specs.Bytes.{flagged}
 use Rattle.rows.specs.Found.{found}
 use borrow.Author.Needs.{needs}
 use Rattle.checks.proofs.whole.stored_fault.Statement.{statement}

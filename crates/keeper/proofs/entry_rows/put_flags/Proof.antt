@@ -2,8 +2,8 @@
 use mathlib.Core.Path.{ap, _∙_}
 use Prim.Native.Nat.{ℕ}
 use lib.ListN.{length}
-use Rattle.image.specs.Bytes.{part}
-use Rattle.image.specs.Flags.{settledFlags}
+use Rattle.yanked.specs.Bytes.{part}
+use Rattle.yanked.specs.Flags.{settledFlags}
 use borrow.Author.Needs.{needs}
 use Rattle.keeper.proofs.entry_rows.put_flags.Statement.{statement}
 use Rattle.keeper.proofs.entry_rows.put_flags.Tie as tie

@@ -2,7 +2,7 @@
 use borrow.Author.Needs.{needs}
 use Prim.Native.Nat.{ℕ, _-_, _/_, _%_}
 use mathlib.Core.Path.{ap}
-use Rattle.words.proofs.Filling.{bits-power}
+use Rattle.words.proofs.Powers.{bits-power}
 use Rattle.words.proofs.codes.code_in.Statement.{statement}
 use Rattle.words.proofs.codes.code_in.Tie as tie
 

@@ -23,11 +23,11 @@ returns c =
     let p = c .before .before .put-digits in
     too-narrow (c .before .before .before .before .before .args .n) (c .before .before .before .before .before .args .field .now) (omega (arith, ap length (p .ensures .1), length-drop (p .result) (p .last .1 .0), p .kept .1 .0))
 
-sub-put-columns : tie.Need-sub-put-columns
-sub-put-columns c = search needs
+sub-gap : tie.Need-sub-gap
+sub-gap c = search needs
 
-put-columns-requires : tie.Need-put-columns-requires
-put-columns-requires c κs = search needs
+put-gap-requires : tie.Need-put-gap-requires
+put-gap-requires c κs = search needs
 
 sub-put-bytes : tie.Need-sub-put-bytes
 sub-put-bytes c = search needs
@@ -51,8 +51,9 @@ returns-2 c =
     let n = 20 - p .result in
     let long : length d ≡ n = omega (arith, length-drop (p .result) (p .last .1 .0), p .kept .1 .0) in
     let all : take n d ≡ d = take-all n d (omega arith) in
-    let blanks = c .before .before .before .before .before .before .before .before .put-columns in
-    justified (c .before .before .before .before .before .before .before .before .before .before .before .before .before .before .before .args .n) (c .before .before .before .before .before .before .before .before .before .before .before .before .before .before .before .args .field .now) (blanks .last .1 .1 .0) _ (take n d) (blanks .result) (length (c .before .before .before .before .before .before .before .before .before .before .before .before .before .before .before .args .field .now) - n) (all ∙ p .ensures .1) (omega (arith, ap length all)) (omega (arith, ap length all)) (omega arith) (blanks .kept .1 .1 .0) (blanks .ensures .1 .0) (c .before .before .put-bytes .ensures)
+    let a = c .before .before .before .before .before .before .before .before .before .before .before .before .before .before .before .args in
+    let blanks = c .before .before .before .before .before .before .before .before .put-gap in
+    justified (a .n) (a .field .now) (blanks .last .1 .0) _ (take n d) (length (a .field .now) - n) (all ∙ p .ensures .1) (omega (arith, ap length all)) (omega (arith, ap length all)) (blanks .kept .1 .0) (blanks .ensures) (c .before .before .put-bytes .ensures)
 
 pub put-number-spec : {M : Type 1} → statement M
 put-number-spec =
@@ -62,8 +63,8 @@ put-number-spec =
     put-digits-requires
     sub-count
     returns
-    sub-put-columns
-    put-columns-requires
+    sub-gap
+    put-gap-requires
     sub-put-bytes
     part-put-bytes-start
     part-put-bytes-end

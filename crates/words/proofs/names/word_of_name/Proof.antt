@@ -6,7 +6,7 @@ use mathlib.Core.Path.{_≡_, refl, sym, _∙_}
 use lib.ListN.{length, getD}
 use Rattle.words.specs.Names.{isNameByte}
 use Rattle.words.proofs.Passing.{passes, stops}
-use Rattle.words.proofs.Filling.{power-more, power-low, power-fits}
+use Rattle.words.proofs.Powers.{power-more, power-low, power-fits, power-in}
 use Rattle.words.proofs.Naming.{Packed, no-letters, many-letters, other-letter, letter-low, letter-high, letter-good, pack-more, pack-end}
 use Rattle.words.proofs.names.word_of_name.Statement.{statement}
 use Rattle.words.proofs.names.word_of_name.Tie as tie
@@ -83,13 +83,13 @@ power-requires c κs = search needs
 mul-result : tie.Need-mul-result Inv-loop μ-loop
 mul-result c =
     let l = c .before .before .loop in
-    let p : c .power .result ≡ 64 ^ (10 - l .i) = c .power .ensures in
+    let p : c .power .result ≡ 64 ^ (10 - l .i) = power-in (10 - l .i) (c .power .ensures) (omega arith) in
     rw p (omega (arith, power-fits (l .w) (l .i) (omega arith) (l .inv .below)))
 
 returns-5 : tie.Need-returns-5 Inv-loop μ-loop
 returns-5 c =
     let l = c .before .before .loop in
-    let p : c .power .result ≡ 64 ^ (10 - l .i) = c .power .ensures in
+    let p : c .power .result ≡ 64 ^ (10 - l .i) = power-in (10 - l .i) (c .power .ensures) (omega arith) in
     rw p (pack-end (c .before .before .before .before .before .before .args .name .now) (l .w) (l .i) (omega arith) (omega arith) (c .before .loop-test .left) (l .inv .good) (l .inv .owed))
 
 pub word-of-name-spec : {M : Type 1} → statement M

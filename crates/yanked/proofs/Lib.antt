@@ -1,0 +1,10 @@
+pub mod Weighing
+pub mod Adding
+pub mod Settling
+pub mod Marking
+pub mod Chaining
+pub mod NameTree
+pub mod Encoded
+pub mod Passing
+pub mod Saying
+pub mod Yanking

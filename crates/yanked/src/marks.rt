@@ -1,0 +1,101 @@
+// The flags of the sets that a card of YANK$$$ names.
+ghost use mathlib.Core.Path.{_≡_};
+ghost use mathlib.Core.List.{map};
+ghost use Rattle.words.specs.Names.{wordOfName};
+ghost use Rattle.lines.specs.Directive.{params};
+ghost use Rattle.library.specs.Library.{entryOf};
+ghost use Rattle.yanked.specs.Flags.{namesIn, mark, marked, acted};
+ghost use Rattle.yanked.specs.Names.{Knows};
+ghost use Rattle.image.specs.Places.{lineIn};
+use crate::force::is_active;
+use crate::names::ALL_WAYS;
+use crate::names::entry_by;
+use image::COLUMNS;
+use image::line_of;
+use image::see;
+use lines::NameStep;
+
+// The number of a name in the directory; 0 where it is not there.
+pub fn entry_of(directory: &[u64], w: u64) -> usize
+    ensures { λ r. ⌜ r ≡ entryOf (now (directory .entry)) w ⌝ }
+{
+    let mut i = 0;
+    while i < directory.len() {
+        if directory[i] == w {
+            return i + 1;
+        }
+        i += 1;
+    }
+    0
+}
+
+fn mark_number(flags: &mut [u64], n: usize)
+    ensures { λ _. ⌜ now (flags .exit) ≡ mark (now (flags .entry)) n ⌝ }
+{
+    if n == 0 {
+        return;
+    }
+    if flags.len() <= n {
+        return;
+    }
+    flags[n] = 1;
+}
+
+fn mark_names(directory: &[u64], ways: &[u16; ALL_WAYS], field: &[u8], flags: &mut [u64])
+    requires { ⌜ Knows (now directory) (now ways) ⌝ }
+    ensures { λ _. ⌜ now (flags .exit) ≡ marked (now (directory .entry)) (map wordOfName (params (now (field .entry)))) (now (flags .entry)) ⌝ }
+{
+    let mut at = 0;
+    loop {
+        match lines::next_name(field, at) {
+            NameStep::Name { word, next } => {
+                mark_number(flags, entry_by(directory, ways, word));
+                at = next;
+            }
+            NameStep::End => return,
+        }
+    }
+}
+
+fn mark_line(directory: &[u64], ways: &[u16; ALL_WAYS], line: &[u8], flags: &mut [u64])
+    requires { ⌜ Knows (now directory) (now ways) ⌝ }
+    ensures { λ _. ⌜ now (flags .exit) ≡ marked (now (directory .entry)) (namesIn (now (line .entry))) (now (flags .entry)) ⌝ }
+{
+    if library::asks_yank(lines::directive(line)) {
+        mark_names(directory, ways, lines::field_of(line), flags);
+    }
+}
+
+fn mark_text(
+    directory: &[u64],
+    ways: &[u16; ALL_WAYS],
+    cards: &[u64],
+    from: usize,
+    to: usize,
+    flags: &mut [u64],
+)
+    requires { ⌜ Knows (now directory) (now ways) ⌝ }
+    ensures { λ _. ⌜ now (flags .exit) ≡ marked (now (directory .entry)) (namesIn (lineIn (now (cards .entry)) from to)) (now (flags .entry)) ⌝ }
+{
+    let mut line = [0u8; COLUMNS];
+    let n = line_of(cards, from, to, &mut line);
+    mark_line(directory, ways, &line[..n], flags);
+}
+
+// The card at a place.
+pub(crate) fn act_card(
+    directory: &[u64],
+    ways: &[u16; ALL_WAYS],
+    cards: &[u64],
+    at: usize,
+    flags: &mut [u64],
+)
+    requires { ⌜ Knows (now directory) (now ways) ⌝ }
+    ensures { λ _. ⌜ now (flags .exit) ≡ acted (now (directory .entry)) (now (cards .entry)) (now (flags .entry)) at ⌝ }
+{
+    let c = see(cards, at);
+    let text = c.text;
+    if is_active(cards, at, text, flags) {
+        mark_text(directory, ways, cards, text, c.next, flags);
+    }
+}
