@@ -1,5 +1,5 @@
 -- Columns of a line, one after another. Assumes nothing.
---   Begun, left-..           a text left justified, column by column
+--   least-short, Begun, left-..   a text left justified, column by column
 --   name-columns, number-columns, line-whole   the parts of a line put together
 use Prim.Native.Nat.{ℕ, zero, suc, _+_, _-_, _*_, _/_, _%_, _^_, _≤_, _<_}
 use native.Mathlib.Omega.{arith}
@@ -18,6 +18,14 @@ use Rattle.words.proofs.Tests.{and-left, and-right, true-T}
 use Rattle.words.specs.Display.{blank}
 use Rattle.words.specs.Names.{isNameByte, isName, nameWord, nameOf, isNameWord, nameInto, digits, numeral, numberInto, leftJustified, rightJustified}
 use Rattle.compile.specs.Lines.{ownerName, lineOf}
+
+-- the least of two, where it is less than the second
+pub least-short : (a b : ℕ) {r : ℕ} → r ≡ (if leb a b then a else b) → r < b → r ≡ a
+least-short a b {r = r} e h = go (leb a b) e
+  where
+    go : (x : Bool) → r ≡ (if x then a else b) → r ≡ a
+    go true e = e
+    go false e = absurd (omega arith)
 
 -- a column inside the text, whatever stands for one past it
 column-inside : (t : List ℕ) (i : ℕ) → i < length t → getD t i 0 ≡ getD t i blank

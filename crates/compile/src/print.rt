@@ -1,6 +1,6 @@
 // A line of the compile file (01, "The compile file").
 ghost use mathlib.Core.Path.{_≡_};
-ghost use Prim.Native.Nat.{_≤_, _<_};
+ghost use Prim.Native.Nat.{_<_};
 ghost use lib.ListN.{length};
 ghost use Rattle.words.specs.Names.{leftJustified};
 ghost use Rattle.compile.specs.Lines.{lineOf};
@@ -22,18 +22,11 @@ const BLANK: u8 = b' ';
 
 const NEWLINE: u8 = 10;
 
-// How many columns of a text stand in a field.
-fn least(text: usize, field: usize) -> usize
-    ensures { λ r. ⌜ (r ≤ text) × ((r ≤ field) × (r < field → r ≡ text)) ⌝ }
-{
-    if text < field { text } else { field }
-}
-
 // Bytes as they stand, then blanks: one choice for the field, none for each column.
 fn put_left(text: &[u8], field: &mut [u8])
     ensures { λ _. ⌜ now (field .exit) ≡ leftJustified (length (now (field .entry))) (now (text .entry)) ⌝ }
 {
-    let n = least(text.len(), field.len());
+    let n = image::least(text.len(), field.len());
     let mut i = 0;
     while i < n {
         field[i] = text[i];

@@ -1,5 +1,5 @@
 -- Each turn writes one column more of the justified text: of the text itself, then blanks.
-use Rattle.compile.proofs.Printing.{Begun, left-copied, left-blank, left-own, left-all}
+use Rattle.compile.proofs.Printing.{least-short, Begun, left-copied, left-blank, left-own, left-all}
 use Rattle.words.specs.Names.{leftJustified}
 use lib.ListN.{length}
 use native.Mathlib.Omega.{arith}
@@ -60,8 +60,9 @@ loop2-less c = search needs
 loop2-again : tie.Need-loop2-again Inv-loop μ-loop Inv-loop2 μ-loop2
 loop2-again c =
     let l = c .before .loop2 in
-    let n = c .before .before .before .before .least .ensures .1 .1 (omega arith) in
-    ((omega arith, omega arith), left-blank _ (c .before .before .before .before .before .before .before .args .text .now) (l .field) (l .i) (l .inv .1) (omega arith) (omega (arith, n)))
+    let a = c .before .before .before .before .before .before .before .args in
+    let n = least-short (length (a .text .now)) (length (a .field .now)) (c .before .before .before .before .least .ensures .0) (omega arith) in
+    ((omega arith, omega arith), left-blank _ (a .text .now) (l .field) (l .i) (l .inv .1) (omega arith) (omega (arith, n)))
 
 same-length : tie.Need-same-length Inv-loop μ-loop Inv-loop2 μ-loop2
 same-length c = search needs
