@@ -55,13 +55,13 @@ uint64_t galdwist_fresh(uint64_t *space, size_t room, uint64_t *value);
 
 /* The directory, a row of GALDWIST_ROW bytes to an entry, from number 1: the name in 9 columns, left justified; what it is (D a deck, C a
  * common deck, S a set, P purged, its name blank); Y where it is yanked, else a blank. 1 to 10 where the image is no library; 53 where the
- * rows do not fit. `value`: the count of entries; the word at fault for 1 to 10; 0 for 53. keeper/Keeper.antt: listing, showInto,
- * toldNumber, toldValue. */
+ * rows do not fit. `value`: the count of entries; the word at fault for 1 to 10; 0 for 53. keeper/Keeper.antt: listing;
+ * naming/Naming.antt: showInto, toldNumber, toldValue. */
 uint64_t galdwist_directory(const uint64_t *image, size_t n, uint8_t *rows, size_t room, uint64_t *value);
 
 /* A card's name, as NAME.NUMBER, from its owner's number in the directory and its sequence number. 1 to 10 where the image is no library;
  * 53 where it does not fit. `value`: bytes written; the word at fault for 1 to 10; 0 for 53. For an owner that the directory lacks, or a purged
- * one, the name is empty. keeper/Keeper.antt: naming, showInto, toldNumber, toldValue. */
+ * one, the name is empty. naming/Naming.antt: naming, showInto, toldNumber, toldValue. */
 uint64_t galdwist_card(const uint64_t *image, size_t n, uint64_t owner, uint64_t seq, uint8_t *out, size_t room, uint64_t *value);
 
 #endif

@@ -39,7 +39,7 @@ fn pack(head: Head, bytes: &[u8], file: &mut [u8]) -> Answer {
 
 fn unpack_into(source: &[u8], room: &mut [u8]) -> Answer {
     fill_bytes(room);
-    let p = packing::unpack_bytes(source, room);
+    let p = unpacking::unpack_bytes(source, room);
     packing_answer(p, room)
 }
 

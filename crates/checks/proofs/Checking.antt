@@ -34,11 +34,12 @@ use Rattle.library.proofs.Each.{each-map, each-two, each-of-map}
 use Rattle.library.proofs.Anys.{no-true, any-map}
 use Rattle.library.proofs.Settle.{settled-solves}
 use Rattle.library.proofs.Rollback.{yankOf}
-use Rattle.rows.specs.Found.{found, cardsAnswer, cardsRead, Sized, Tabled, refusedBy, firstRows}
+use Rattle.tables.specs.Found.{found, Sized, Tabled, refusedBy}
+use Rattle.rows.specs.Found.{cardsAnswer, cardsRead, firstRows}
 use Rattle.rows.proofs.Placing.{all-pass}
-use Rattle.rows.proofs.Tabling.{sized, tabled}
-use Rattle.rows.proofs.Seeing.{found-none}
-use Rattle.rows.proofs.Listing.{entries-are}
+use Rattle.tables.proofs.Tabling.{sized, tabled}
+use Rattle.tables.proofs.Answering.{found-none}
+use Rattle.tables.proofs.Listing.{entries-are}
 use Rattle.yanked.specs.Bytes.{part, flagged}
 use Rattle.yanked.specs.Flags.{namesIn, settledFlags}
 use Rattle.yanked.proofs.Settling.{Lower}

@@ -1,27 +1,32 @@
 -- Two cards share owner and number just where their keys are the same, since a number has 18 bits. Assumes nothing.
---   word-key, shares-keys                               the key of a card
---   Keyed, keyed-none, keyed-more, key-on, key-here     the keys of the cards ahead
---   Twice, twice-..                                     the loop
+--   word-key, shares-keys                    the key of a card
+--   Listing, list-..                         the keys of the cards, one after another
+--   Placing, place-..                        a card by how many are ahead of it
+--   twice-none, twice-at                     row 10 by the first key that stands twice
 use Prim.Native.Nat.{ℕ, suc, _+_, _-_, _*_, _/_, _%_, _^_, _≤_, _<_}
 use native.Mathlib.Omega.{arith}
 use native.Mathlib.Nat.{add-zero}
 use native.Mathlib.Numerals.{add-one}
 use mathlib.Core.Path.{_≡_, refl, sym, ap, ap₂, _∙_, subst}
 use mathlib.Core.Bool.{Bool, true, false, _&&_, _||_}
-use mathlib.Core.List.{List, [], _∷_, _++_}
-use mathlib.Core.Option.{none, some}
+use mathlib.Core.List.{List, [], _∷_, _++_, map, append-assoc, append-nil}
+use mathlib.Core.Option.{some}
 use lib.Dec.{eqb}
-use lib.ListN.{length, getD, take, drop, set}
-use lib.Seq.{take-suc-set, drop-cons, getD-drop}
+use lib.ListN.{length, getD, take, drop, set, length-append, length-map, length-drop, drop-of-length-le}
+use lib.Seq.{take-all, take-suc-set, length-take-le, drop-cons, getD-drop}
 use borrow.Author.Tests.{eq-eqb, ne-eqb, eqb-true, eqb-false}
 use Rattle.words.specs.Base.{if_then_else_, any, member, isNil}
+use Rattle.identifiers.specs.Twice.{twiceFrom, firstTwice}
 use Rattle.library.specs.Each.{Each}
 use Rattle.library.specs.Check.{Stored, rawBytes, threes, used, sharesBoth, row10From, row10}
-use Rattle.image.specs.Places.{seenAt}
-use Rattle.checks.specs.Walks.{Walk, Spans}
-use Rattle.checks.specs.Rows.{keyOf}
 use Rattle.library.specs.declared.Seen.{Seen}
-use Rattle.checks.proofs.Spanning.{span-first, span-none}
+use Rattle.library.specs.declared.Found.the-variants.{At, Nothing}
+use Rattle.image.specs.Places.{seenAt}
+use Rattle.tables.specs.Found.{found}
+use Rattle.checks.specs.Walks.{Walk, Spans}
+use Rattle.checks.specs.Rows.{keyOf, Row10}
+use Rattle.checks.specs.Keys.{Listed, firstPlace, Stands}
+use Rattle.checks.proofs.Spanning.{Going, Still, still-start, still-on, still-end}
 use Rattle.checks.proofs.Showing.{shown-next, shown-place}
 
 abbrev pub Numbered : Stored → Type 0
@@ -66,93 +71,110 @@ key-same a b m n p q = go (eqb a b) (eqb m n) refl refl
     go true false e f = let v : m ≡ n → ⊥ = eqb-false m n f in let u : a ≡ b = eqb-true a b e in sym (ne-eqb (a * 2 ^ 18 + m) (b * 2 ^ 18 + n) (λ z. v (omega arith)))
     go false y e f = let u : a ≡ b → ⊥ = eqb-false a b e in sym (ne-eqb (a * 2 ^ 18 + m) (b * 2 ^ 18 + n) (λ z. u (omega arith)))
 
--- the keys of the cards ahead stand among the first n
-pub record Keyed (keys : List ℕ) (n : ℕ) (ahead : List Stored) : Type 0 where
-  pub stands : (k : ℕ) → any (λ t. eqb k (keyOf t)) ahead ≡ member k (take n keys)
-  pub numbered : Each Numbered ahead
-
-pub keyed-none : (keys : List ℕ) → Keyed keys 0 []
-keyed-none keys = record { stands = λ k. refl; numbered = tt }
-
-member-end : (k v : ℕ) (xs : List ℕ) → member k (xs ++ v ∷ []) ≡ (eqb k v || member k xs)
-member-end k v [] = refl
-member-end k v (x ∷ xs) = ap (λ (b : Bool). eqb k x || b) (member-end k v xs) ∙ swap (eqb k x) (eqb k v) (member k xs)
-  where
-    swap : (a b c : Bool) → (a || (b || c)) ≡ (b || (a || c))
-    swap true true c = refl
-    swap true false c = refl
-    swap false b c = refl
-
-pub keyed-more : (keys : List ℕ) (n : ℕ) (ahead : List Stored) (s : Stored) → n < length keys → s .card .seq < 2 ^ 18 → (v : ℕ) → v ≡ keyOf s → Keyed keys n ahead
-    → Keyed (set keys n v) (n + 1) (s ∷ ahead)
-keyed-more keys n ahead s lt num v e h = record {
-  stands = λ k.
-      ap₂ _||_ (ap (eqb k) (sym e)) (h .stands k) ∙ sym (member-end k v (take n keys))
-      ∙ ap (member k) (sym (ap (λ (m : ℕ). take m (set keys n v)) (add-one n) ∙ take-suc-set keys n v lt));
-  numbered = (num, h .numbered);
-}
-
 pub shares-keys : (s : Stored) → s .card .seq < 2 ^ 18 → (ahead : List Stored) → Each Numbered ahead → any (sharesBoth s) ahead ≡ any (λ t. eqb (keyOf s) (keyOf t)) ahead
 shares-keys s num [] h = refl
 shares-keys s num (t ∷ ts) h = ap₂ _||_ (key-same (s .card .owner) (t .card .owner) (s .card .seq) (t .card .seq) num (h .0)) (shares-keys s num ts (h .1))
 
-module _ (keys : List ℕ) (n : ℕ) (ahead : List Stored) (h : Keyed keys n ahead) (s : Stored) (num : s .card .seq < 2 ^ 18) (v : ℕ) (e : v ≡ keyOf s) (ss : List Stored) where
-  shares : any (sharesBoth s) ahead ≡ member v (take n keys)
-  shares = shares-keys s num ahead (h .numbered) ∙ h .stands (keyOf s) ∙ ap (λ (k : ℕ). member k (take n keys)) (sym e)
+-- THE KEYS OF THE CARDS: those of the cards ahead are listed, and those left are to be
+abbrev pub Listing : List ℕ → List ℕ → ℕ → List ℕ → ℕ → ℕ → Type 0
+Listing d ws from keys n at = Still d ws from (length ws) at (map keyOf) (λ t. take n keys ++ map keyOf t)
 
-  pub key-on : member v (take n keys) ≡ false → row10From ahead (s ∷ ss) ≡ row10From (s ∷ ahead) ss
-  key-on f = ap (λ (b : Bool). if b then some (s .place) else row10From (s ∷ ahead) ss) (shares ∙ f)
+pub list-start : (d ws : List ℕ) (from : ℕ) (keys : List ℕ) → Listing d ws from keys 0 from
+list-start d ws from keys = still-start d ws from (length ws) (map keyOf)
 
-  pub key-here : member v (take n keys) ≡ true → (at : ℕ) → s .place ≡ at → row10From ahead (s ∷ ss) ≡ some at
-  key-here f at p = ap (λ (b : Bool). if b then some (s .place) else row10From (s ∷ ahead) ss) (shares ∙ f) ∙ ap some p
-
--- THE LOOP: those ahead and those left
-pub record Parts (d ws : List ℕ) (keys : List ℕ) (n at : ℕ) (ss : List Stored) : Type 0 where
-  pub ahead : List Stored
-  pub left : List Stored
-  pub spans : Spans d ws at (length ws) left
-  pub keyed : Keyed keys n ahead
-  pub count : length ss ≡ n + length left
-  pub holds : row10 ss ≡ row10From ahead left
-
-abbrev pub Twice : List ℕ → List ℕ → ℕ → List ℕ → ℕ → ℕ → Type 0
-Twice d ws from keys n at = (ss : List Stored) → Spans d ws from (length ws) ss → Parts d ws keys n at ss
-
-pub twice-start : (d ws : List ℕ) (from : ℕ) (keys : List ℕ) → Twice d ws from keys 0 from
-twice-start d ws from keys ss h = record { ahead = []; left = ss; spans = h; keyed = keyed-none keys; count = omega arith; holds = refl }
-
-module _ (d ws : List ℕ) (from : ℕ) (keys : List ℕ) (n at : ℕ) (inv : Twice d ws from keys n at) where
+module _ (d ws : List ℕ) (from : ℕ) (keys : List ℕ) (n at : ℕ) (inv : Listing d ws from keys n at) where
   -- row 5 let no more cards in than keys have room
-  pub twice-full : (ss : List Stored) → Spans d ws from (length ws) ss → length ss ≤ 16383 → at < length ws → 16384 ≤ n → ⊥
-  twice-full ss h m lt le = let g = inv ss h in let e : length ss ≡ n + length (g .left) = g .count in omega arith
+  pub list-full : length keys ≡ 16384 → n ≡ length keys → (ss : List Stored) → Spans d ws from (length ws) ss → length ss ≤ 16383 → ⊥
+  list-full long full ss h m =
+      let g = inv ss h in
+      let e : length (map keyOf ss) ≡ length (take n keys ++ map keyOf (g .left)) = ap length (g .holds) in
+      omega (arith, length-map ss keyOf, length-append (take n keys) (map keyOf (g .left)), length-take-le n keys (omega arith))
 
-  pub twice-end : length ws ≤ at → (ss : List Stored) → Spans d ws from (length ws) ss → row10 ss ≡ none
-  twice-end le ss h = let g = inv ss h in g .holds ∙ ap (row10From (g .ahead)) (span-none d ws at (length ws) (g .left) le (g .spans))
+  pub list-end : length ws ≤ at → (ss : List Stored) → Spans d ws from (length ws) ss → map keyOf ss ≡ take n keys
+  list-end le ss h = still-end d ws from (length ws) (map keyOf) at (λ t. take n keys ++ map keyOf t) inv le ss h ∙ append-nil (take n keys)
 
-  module _ (r : Seen) (sees : r ≡ seenAt ws at) (lt : at < length ws) (v : ℕ) (is : v ≡ getD ws at 0 % 2 ^ 16 * 2 ^ 18 + getD ws at 0 / 2 ^ 18 % 2 ^ 18) where
-    key-is : (s : Stored) (w : Walk d ws at s) → v ≡ keyOf s
-    key-is s w = is ∙ word-key d ws at s w
+  pub list-on : (r : Seen) → r ≡ seenAt ws at → at < length ws → n < length keys → (v : ℕ) → v ≡ getD ws at 0 % 2 ^ 16 * 2 ^ 18 + getD ws at 0 / 2 ^ 18 % 2 ^ 18
+      → Listing d ws from (set keys n v) (n + 1) (r .next)
+  list-on r sees lt room v is =
+      still-on d ws from (length ws) (map keyOf) at (λ t. take n keys ++ map keyOf t) inv lt (r .next) (λ t. take (n + 1) (set keys n v) ++ map keyOf t)
+      (λ s w. (shown-next d ws at s w r sees, λ t. one-more s w t))
+    where
+      one-more : (s : Stored) (w : Walk d ws at s) (t : List Stored) → (take n keys ++ keyOf s ∷ map keyOf t) ≡ (take (n + 1) (set keys n v) ++ map keyOf t)
+      one-more s w t =
+          ap (λ (k : ℕ). take n keys ++ k ∷ map keyOf t) (sym (is ∙ word-key d ws at s w)) ∙ sym (append-assoc (take n keys) (v ∷ []) (map keyOf t))
+          ∙ ap (λ (l : List ℕ). l ++ map keyOf t) (sym (ap (λ (m : ℕ). take m (set keys n v)) (add-one n) ∙ take-suc-set keys n v room))
 
-    pub twice-here : (ss : List Stored) → Spans d ws from (length ws) ss → member v (take n keys) ≡ true → row10 ss ≡ some at
-    twice-here ss h e =
-        let g = inv ss h in
-        let f = span-first d ws at (length ws) (g .left) lt (g .spans) in
-        g .holds ∙ ap (row10From (g .ahead)) (f .is)
-        ∙ key-here keys n (g .ahead) (g .keyed) (f .card) (walk-numbered d ws at (f .card) (f .walk)) v (key-is (f .card) (f .walk)) (f .rest) e at (shown-place d ws at (f .card) (f .walk) r sees)
+-- A CARD BY ITS COUNT: those left at a place are all but the first i
+abbrev pub Placing : List ℕ → List ℕ → ℕ → ℕ → ℕ → ℕ → Type 0
+Placing d ws from k i at = (ss : List Stored) → Spans d ws from (length ws) ss → k < length ss → Going d ws at (length ws) (λ t. drop k ss ≡ drop (k - i) t)
 
-    pub twice-on : n < length keys → member v (take n keys) ≡ false → Twice d ws from (set keys n v) (n + 1) (r .next)
-    twice-on room e ss h =
-        let g = inv ss h in
-        let f = span-first d ws at (length ws) (g .left) lt (g .spans) in
-        let num = walk-numbered d ws at (f .card) (f .walk) in
-        let key = key-is (f .card) (f .walk) in
-        let c : length ss ≡ n + length (g .left) = g .count in
-        let m : length (g .left) ≡ suc (length (f .rest)) = ap length (f .is) in
-        record {
-          ahead = f .card ∷ g .ahead;
-          left = f .rest;
-          spans = subst (λ (k : ℕ). Spans d ws k (length ws) (f .rest)) (sym (shown-next d ws at (f .card) (f .walk) r sees)) (f .on);
-          keyed = keyed-more keys n (g .ahead) (f .card) room num v key (g .keyed);
-          count = omega arith;
-          holds = g .holds ∙ ap (row10From (g .ahead)) (f .is) ∙ key-on keys n (g .ahead) (g .keyed) (f .card) num v key (f .rest) e;
-        }
+pub place-start : (d ws : List ℕ) (from k : ℕ) → Placing d ws from k 0 from
+place-start d ws from k ss h lt = let z : k ≡ k - 0 = omega arith in record { left = ss; spans = h; holds = ap (λ (m : ℕ). drop m ss) z }
+
+module _ (d ws : List ℕ) (from k i at : ℕ) (inv : Placing d ws from k i at) where
+  -- card k is one of those left
+  some-left : (ss : List Stored) → k < length ss → drop k ss ≡ drop (k - i) [] → ⊥
+  some-left ss lt e =
+      let z : length (drop k ss) ≡ length (drop (k - i) []) = ap length e in
+      omega (arith, length-drop k ss, length-drop {A = Stored} (k - i) [])
+
+  pub place-on : (r : Seen) → r ≡ seenAt ws at → i < k → Placing d ws from k (i + 1) (r .next)
+  place-on r sees more ss h lt = let g = inv ss h lt in go (g .left) (g .spans) (g .holds)
+    where
+      go : (t : List Stored) → Spans d ws at (length ws) t → drop k ss ≡ drop (k - i) t → Going d ws (r .next) (length ws) (λ t. drop k ss ≡ drop (k - (i + 1)) t)
+      go [] sp e = absurd (some-left ss lt e)
+      go (s ∷ t) sp e =
+          let z : k - i ≡ suc (k - (i + 1)) = omega arith in
+          record {
+            left = t;
+            spans = subst (λ (m : ℕ). Spans d ws m (length ws) t) (sym (shown-next d ws at s (sp .0) r sees)) (sp .1);
+            holds = e ∙ ap (λ (m : ℕ). drop m (s ∷ t)) z;
+          }
+
+  pub place-end : k ≤ i → (ss : List Stored) → Spans d ws from (length ws) ss → k < length ss → some at ≡ firstPlace (drop k ss)
+  place-end le ss h lt = let g = inv ss h lt in go (g .left) (g .spans) (g .holds)
+    where
+      go : (t : List Stored) → Spans d ws at (length ws) t → drop k ss ≡ drop (k - i) t → some at ≡ firstPlace (drop k ss)
+      go [] sp e = absurd (some-left ss lt e)
+      go (s ∷ t) sp e =
+          let z : k - i ≡ 0 = omega arith in
+          sym (ap firstPlace (e ∙ ap (λ (m : ℕ). drop m (s ∷ t)) z) ∙ ap some (shown-place d ws at s (sp .0) (seenAt ws at) refl))
+
+-- ROW 10
+any-key : (k : ℕ) (ahead : List Stored) → any (λ t. eqb k (keyOf t)) ahead ≡ member k (map keyOf ahead)
+any-key k [] = refl
+any-key k (t ∷ ts) = ap (λ (b : Bool). eqb k (keyOf t) || b) (any-key k ts)
+
+all-numbered : (d ws : List ℕ) (at end : ℕ) (ss : List Stored) → Spans d ws at end ss → Each Numbered ss
+all-numbered d ws at end [] h = tt
+all-numbered d ws at end (s ∷ ss) h = (walk-numbered d ws at s (h .0), all-numbered d ws (h .0 .next) end ss (h .1))
+
+key-first : (ahead ss : List Stored) → Each Numbered ahead → Each Numbered ss → row10From ahead ss ≡ firstPlace (drop (twiceFrom (map keyOf ahead) (map keyOf ss)) ss)
+key-first ahead [] p q = refl
+key-first ahead (s ∷ ss) p q =
+    ap (λ (b : Bool). if b then some (s .place) else row10From (s ∷ ahead) ss) (shares-keys s (q .0) ahead p ∙ any-key (keyOf s) ahead)
+    ∙ go (member (keyOf s) (map keyOf ahead)) (twiceFrom (map keyOf (s ∷ ahead)) (map keyOf ss)) (key-first (s ∷ ahead) ss (q .0, p) (q .1))
+  where
+    go : (b : Bool) (on : ℕ) → row10From (s ∷ ahead) ss ≡ firstPlace (drop on ss)
+        → (if b then some (s .place) else row10From (s ∷ ahead) ss) ≡ firstPlace (drop (if b then 0 else suc on) (s ∷ ss))
+    go true on e = refl
+    go false on e = e
+
+module _ (ws : List ℕ) (from : ℕ) (keys : List ℕ) (n : ℕ) (within : n ≤ length keys) (few : n ≤ 16384) (listed : Listed ws from (take n keys)) (k : ℕ) (is : k ≡ firstTwice (take 16384 (take n keys))) where
+  module _ (d : List ℕ) (ss : List Stored) (h : Spans d ws from (length ws) ss) (m : length ss ≤ 16383) where
+    count : length ss ≡ n
+    count = sym (length-map ss keyOf) ∙ ap length (listed d ss h m) ∙ length-take-le n keys within
+
+    at-key : row10 ss ≡ firstPlace (drop k ss)
+    at-key =
+        let z : length (take n keys) ≡ n = length-take-le n keys within in
+        let e : firstTwice (map keyOf ss) ≡ k = ap firstTwice (listed d ss h m ∙ sym (take-all 16384 (take n keys) (omega arith))) ∙ sym is in
+        key-first [] ss tt (all-numbered d ws from (length ws) ss h) ∙ ap (λ (j : ℕ). firstPlace (drop j ss)) e
+
+  pub twice-none : n ≤ k → Row10 ws from Nothing
+  twice-none le d ss h m =
+      let past : length ss ≤ k = omega (arith, count d ss h m) in
+      sym (ap found (at-key d ss h m ∙ ap firstPlace (drop-of-length-le ss past)))
+
+  pub twice-at : k < n → (r : ℕ) → Stands ws from k r → Row10 ws from (At r)
+  twice-at lt r stands d ss h m = ap found (stands d ss h (omega (arith, count d ss h m)) ∙ sym (at-key d ss h m))

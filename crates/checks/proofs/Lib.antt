@@ -5,8 +5,6 @@ pub mod Telling
 pub mod Weighing
 pub mod Decking
 pub mod Naming
-pub mod KeyTree
 pub mod Keying
-pub mod Slotting
 pub mod Cutting
 pub mod Checking

@@ -1,4 +1,3 @@
 pub mod Walks
 pub mod Rows
-pub mod KeyTree
-pub mod Slots
+pub mod Keys

@@ -25,7 +25,8 @@ use Rattle.library.specs.declared.DeckLine.{DeckLine as DeckAnswer}
 use Rattle.library.specs.declared.DeckLine.the-variants.{NotDeck, BadDeck, Deck, Common}
 use Rattle.yanked.specs.Bytes.{part, flagged, sayAll}
 use Rattle.yanked.specs.Flags.{settledFlags}
-use Rattle.rows.specs.Found.{found, cardsRead}
+use Rattle.tables.specs.Found.{found}
+use Rattle.rows.specs.Found.{cardsRead}
 use Rattle.checks.specs.Walks.{Walks, Spans}
 
 -- A DECK CARD

@@ -44,7 +44,7 @@ fn titles(directory: &[u64], at: usize, c: Seen, name: u64, w: u64) -> bool
     if w != name {
         return false;
     }
-    if c.owner != yanked::entry_of(directory, w) as u64 {
+    if c.owner != entries::entry_of(directory, w) as u64 {
         return false;
     }
     if c.seq != 1 {

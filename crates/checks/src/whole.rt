@@ -3,7 +3,7 @@ ghost use mathlib.Core.Path.{_≡_};
 ghost use Prim.Native.Nat.{_≤_};
 ghost use lib.ListN.{length};
 ghost use Rattle.library.specs.Check.{checked};
-ghost use Rattle.rows.specs.Found.{Sized, Tabled};
+ghost use Rattle.tables.specs.Found.{Sized, Tabled};
 ghost use Rattle.checks.specs.Rows.{RowBits, AfterDecks, AfterCards, AfterRows};
 use crate::bits::bits_fault;
 use crate::decks::cards_end;
@@ -13,7 +13,7 @@ use crate::yanks::yanks_fault;
 use library::Checked;
 use library::Fault;
 use library::Found;
-use rows::DIRECTORY;
+use tables::DIRECTORY;
 
 // a flag for each directory number, 0 to 1,023
 const FLAGS: usize = 1024;
@@ -62,8 +62,8 @@ fn check_cards(image: &[u64]) -> Checked
     requires { ⌜ Tabled (now image) ⌝ }
     ensures { λ r. ⌜ AfterRows (now (image .entry)) r ⌝ }
 {
-    let first = DIRECTORY + rows::entries_of(image);
-    let from = first + rows::decks_of(image);
+    let first = DIRECTORY + tables::entries_of(image);
+    let from = first + tables::decks_of(image);
     check_decks(image, &image[DIRECTORY..first], &image[first..from], from)
 }
 

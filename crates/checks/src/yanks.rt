@@ -4,14 +4,14 @@ ghost use Prim.Native.Nat.{_≤_};
 ghost use lib.ListN.{length};
 ghost use Rattle.words.specs.Base.{all};
 ghost use Rattle.lines.specs.Directive.{params};
-ghost use Rattle.yanked.specs.Names.{Knows};
+ghost use Rattle.entries.specs.Names.{Knows};
 ghost use Rattle.image.specs.Places.{lineIn};
 ghost use Rattle.checks.specs.Rows.{okName, okParam, okYankLine, Row8};
+use entries::ALL_WAYS;
 use image::COLUMNS;
 use library::Found;
 use library::Seen;
 use lines::NameStep;
-use yanked::ALL_WAYS;
 
 fn name_ok(
     directory: &[u64],
@@ -25,14 +25,14 @@ fn name_ok(
     requires { ⌜ Knows (now list) (now decks) ⌝ }
     ensures { λ r. ⌜ r ≡ okName (now (directory .entry)) (now (list .entry)) own w ⌝ }
 {
-    let n = yanked::entry_by(directory, ways, w);
+    let n = entries::entry_by(directory, ways, w);
     if n == 0 {
         return false;
     }
     if own <= n as u64 {
         return false;
     }
-    yanked::entry_by(list, decks, w) == 0
+    entries::entry_by(list, decks, w) == 0
 }
 
 fn names_ok(
@@ -134,8 +134,8 @@ pub(crate) fn yanks_fault(
     ensures { λ r. ⌜ Row8 (now (directory .entry)) (now (list .entry)) (now (image .entry)) from end r ⌝ }
 {
     let mut ways = [0u16; ALL_WAYS];
-    yanked::plant(directory, &mut ways);
+    entries::plant(directory, &mut ways);
     let mut decks = [0u16; ALL_WAYS];
-    yanked::plant(list, &mut decks);
+    entries::plant(list, &mut decks);
     planted_fault(image, directory, &ways, list, &decks, from, end)
 }

@@ -29,8 +29,8 @@ use Rattle.image.specs.Places.{nextAt, seenAt, titleOf, isTitle, named, deckEnd
 use Rattle.image.proofs.Rows.{titleAt, titled, end-here, end-past, rows-here, rows-end, rows-skip, tables-all}
 use Rattle.image.proofs.Written.{inside, next-is, after, some-words, owner-is, seq-is, active-is, line-is, title-is}
 use Rattle.image.proofs.Ending.{stands-first, cards-end, cards-after}
-use Rattle.compile.specs.View.{DeckView, shownCard, shown, viewDecks, view}
-use Rattle.compile.specs.TableView.{shownOf, consIf, shownIn, tableView}
+use Rattle.walks.specs.View.{DeckView, shownCard, shown, viewDecks, view}
+use Rattle.walks.specs.TableView.{shownOf, consIf, shownIn, tableView}
 use Rattle.library.specs.declared.Fault.{Fault}
 use Rattle.library.specs.declared.Checked.{Checked}
 use Rattle.library.specs.declared.Checked.the-variants.{Sound as Accepts, Refused as Rejects}
@@ -38,7 +38,7 @@ use Rattle.compile.specs.Compile.{Compiling, ofWalk, compileView, fromCh
 use Rattle.compile.specs.Answer.{Named, Plain, Answers, Compiles, CompilesImage}
 use Rattle.compile.specs.declared.Compiled.{Compiled}
 use Rattle.compile.specs.declared.Compiled.the-variants.{Library as OfLibrary}
-use Rattle.compile.proofs.Showing.{shown-more, shown-past}
+use Rattle.walks.proofs.Showing.{shown-more, shown-past}
 
 -- A CARD: its words stand at a place, and the names in the directory
 module _ (directory ws : List ℕ) (entries : length directory ≤ 1023)

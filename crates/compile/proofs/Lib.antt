@@ -1,10 +1,2 @@
-pub mod ViewBack
-pub mod AlikeView
-pub mod Showing
-pub mod Printing
-pub mod Finding
-pub mod Putting
-pub mod Stepping
 pub mod Following
-pub mod Decking
 pub mod Encoded

@@ -10,7 +10,7 @@ use Rattle.words.specs.Names.{isNameWord}
 use Rattle.library.specs.Library.{Library}
 use Rattle.library.specs.Each.{Each}
 use Rattle.library.specs.Check.{good, check}
-use Rattle.compile.specs.View.{Shown, DeckView, view}
+use Rattle.walks.specs.View.{Shown, DeckView, view}
 use Rattle.compile.specs.Compile.{Compiling, ofWalk, compileView, compiled, compileInto}
 use Rattle.compile.specs.declared.Compiled.{Compiled}
 

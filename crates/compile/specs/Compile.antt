@@ -17,10 +17,10 @@ use Rattle.packing.specs.declared.Packing.the-variants.{Done as Unpacked, Lengt
 use Rattle.library.specs.Library.{Library}
 use Rattle.library.specs.Check.{Checking, good, bad, check, faultNumber}
 use Rattle.library.specs.declared.Fault.{Fault}
-use Rattle.compile.specs.View.{DeckView, view, fullChoice}
-use Rattle.compile.specs.Walk.{Walk, walked, halted, walkDecks}
-use Rattle.compile.specs.declared.Stop.{Stop}
-use Rattle.compile.specs.declared.Stop.the-variants.{NoDeck, NotCommon, Deep, Many, Space}
+use Rattle.walks.specs.View.{DeckView, view, fullChoice}
+use Rattle.walks.specs.Walk.{Walk, walked, halted, walkDecks}
+use Rattle.walks.specs.declared.Stop.{Stop}
+use Rattle.walks.specs.declared.Stop.the-variants.{NoDeck, NotCommon, Deep, Many, Space}
 use Rattle.compile.specs.declared.Compiled.{Compiled}
 use Rattle.compile.specs.declared.Compiled.the-variants.{Done, Library as OfLibrary, Refused}
 

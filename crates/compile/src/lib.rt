@@ -1,20 +1,16 @@
-// The compile file: the walk over decks and calls, and the 91-byte line.
+// The compile file of an image: the check first, then the walk (01, "The compile file").
 ghost use mathlib.Core.Path.{_≡_};
 ghost use lib.ListN.{length};
-ghost use Rattle.compile.specs.TableView.{tableView};
+ghost use Rattle.walks.specs.TableView.{tableView};
 ghost use Rattle.compile.specs.Compile.{compiling, compiled, compileInto, stopNumber, compiledNumber, compiledFirst, compiledSecond};
 ghost use Rattle.compile.specs.Answer.{Compiles, CompilesImage};
-
-mod calls;
-mod print;
-mod walk;
-
-use crate::walk::Walked;
-use crate::walk::walk_decks;
 use image::TABLE;
 use image::put_table;
 use library::Checked;
 use library::Fault;
+use walks::Stop;
+use walks::Walked;
+use walks::walk_decks;
 
 // 01's rows
 const DONE: u64 = 0;
@@ -28,20 +24,6 @@ const DEEP: u64 = 42;
 const MANY: u64 = 43;
 
 const SPACE: u64 = 44;
-
-// Why a compile file is refused: 01's rows 40 to 44.
-pub enum Stop {
-    // a CALL names no deck or is malformed
-    NoDeck,
-    // a CALL of YANK$$$ or of another deck that is not common
-    NotCommon,
-    // calls nested deeper than 8
-    Deep,
-    // more than 4,096 calls
-    Many,
-    // the line does not fit the space
-    Space,
-}
 
 // What a compile answers: lines written and calls opened; the library's fault and its place; or the row and the card.
 pub enum Compiled {

@@ -1,5 +1,8 @@
-// The corrections of a library, without their code: what a run answers, and 01's numbers of it.
+// The corrections of a library, without their code: what a run answers, 01's numbers of it, and the limits that it keeps.
 ghost use mathlib.Core.Path.{_≡_};
+ghost use lib.ListN.{length};
+ghost use Rattle.lines.specs.Directive.{lineAfter};
+ghost use Rattle.corrections.specs.Counts.{withinCounts};
 ghost use Rattle.corrections.specs.Run.{whyNumber, ranNumber, ranValue};
 use library::Fault;
 
@@ -84,4 +87,42 @@ pub fn ran_value(r: Ran) -> u64
         Ran::Library(_, p) => p as u64,
         Ran::Refused(_, n) => n as u64,
     }
+}
+
+// the limits of rows 3, 5 and 1
+const ENTRIES: usize = 1023;
+
+const DECKS: usize = 255;
+
+const CARDS: usize = 16383;
+
+const WORDS: usize = 65536;
+
+// Whether a library of so many entries, decks (YANK$$$ among them), cards and words passes no limit of rows 1, 3 and 5 (31).
+pub fn within_limits(entries: usize, decks: usize, cards: usize, words: usize) -> bool
+    ensures { λ r. ⌜ r ≡ withinCounts entries decks cards words ⌝ }
+{
+    if ENTRIES < entries {
+        return false;
+    }
+    if DECKS < decks {
+        return false;
+    }
+    if CARDS < cards {
+        return false;
+    }
+    words <= WORDS
+}
+
+// Past any stream (19); up to here a place, a line and its end fit a number.
+const FARTHEST: usize = 1 << 62;
+
+// Where the line after the one at `at` starts, past the byte that ends it; a place past any stream stays where it is.
+pub fn line_after(at: usize, line: &[u8]) -> usize
+    ensures { λ r. ⌜ r ≡ lineAfter at (length (now (line .entry))) ⌝ }
+{
+    if FARTHEST < at {
+        return at;
+    }
+    at + line.len() + 1
 }

@@ -5,9 +5,9 @@ use mathlib.Core.List.{List}
 use Rattle.library.specs.Library.{Library}
 use Rattle.library.specs.Check.{good, check}
 use Rattle.library.proofs.CheckSound.{check-sound}
-use Rattle.compile.specs.View.{view}
+use Rattle.walks.specs.View.{view}
 use Rattle.compile.specs.Compile.{compileView, compiling, ofWalk, fromChecked as compileChecked}
-use Rattle.compile.proofs.AlikeView.{view-alike}
+use Rattle.walks.proofs.AlikeView.{view-alike}
 use Rattle.demands.specs.Demands.{R6}
 
 pub compile-good : (image : List ℕ) (l : Library) → check image ≡ good l → (room : ℕ) → compiling image room ≡ ofWalk (compileView room (view l))

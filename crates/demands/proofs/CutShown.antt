@@ -25,8 +25,8 @@ use Rattle.corrections.specs.Run.{steps, notUpdated, fitted, update, Running, b
 use Rattle.corrections.specs.declared.Why.the-variants.{Stream, Nowhere}
 use Rattle.corrections.specs.Cut.{beginsUnit}
 use Rattle.compile.specs.Compile.{compiling}
-use Rattle.compile.specs.View.{view}
-use Rattle.compile.specs.Walk.{printed, lookUp}
+use Rattle.walks.specs.View.{view}
+use Rattle.walks.specs.Walk.{printed, lookUp}
 use Rattle.demands.specs.Shown.{streamOf}
 use Rattle.demands.specs.Cut.{whole, isCut, counted, goOn, runParts}
 use Rattle.demands.specs.CutShown.{ShownCut, differ, NoneSpareCut, longParts, SizeNeeded}

@@ -14,8 +14,8 @@ use Rattle.library.specs.Yanks.{active, targets, yanksOf, settledYanks, yanked}
 use Rattle.corrections.specs.Run.{Running, newLibrary, badLibrary, badStream, update, running}
 use Rattle.corrections.specs.Step.{find, step}
 use Rattle.compile.specs.Compile.{compiling}
-use Rattle.compile.specs.View.{view}
-use Rattle.compile.specs.Walk.{printed, lookUp}
+use Rattle.walks.specs.View.{view}
+use Rattle.walks.specs.Walk.{printed, lookUp}
 use Rattle.demands.specs.Demands.{Runs, noRun, oneRun}
 use Rattle.demands.specs.Instances.{one, two, three, writtenBy, wroteOne, ranOn, written, before, corrected, back, ShownBack, NoneSpare}
 

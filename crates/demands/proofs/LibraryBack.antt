@@ -21,8 +21,8 @@ use Rattle.corrections.proofs.YankingSet.{actsOn, Yanking, YankedBySet, yanking
 use Rattle.corrections.proofs.Updates.{steps-growth, steps-decks}
 use Rattle.corrections.proofs.SameDecks.{HasDecks}
 use Rattle.corrections.proofs.Kept.{steps-sound}
-use Rattle.compile.specs.View.{view}
-use Rattle.compile.proofs.ViewBack.{takenBack, view-back}
+use Rattle.walks.specs.View.{view}
+use Rattle.walks.proofs.ViewBack.{takenBack, view-back}
 use Rattle.demands.specs.Demands.{LibraryBack}
 
 module _ (old : Library) (ns : List ℕ) (corrected : Library) (g : Growth old ns corrected) where

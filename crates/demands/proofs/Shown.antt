@@ -12,8 +12,8 @@ use Rattle.library.specs.Yanks.{active, targets, yanksOf, settledYanks, yanked}
 use Rattle.corrections.specs.Run.{update, running}
 use Rattle.corrections.specs.Step.{find, step}
 use Rattle.compile.specs.Compile.{compiling, program}
-use Rattle.compile.specs.View.{view}
-use Rattle.compile.specs.Walk.{printed, lookUp}
+use Rattle.walks.specs.View.{view}
+use Rattle.walks.specs.Walk.{printed, lookUp}
 use Rattle.demands.specs.Shown.{AllHold}
 
 pub all-hold : AllHold

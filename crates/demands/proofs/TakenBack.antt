@@ -20,7 +20,7 @@ use Rattle.corrections.proofs.StepSound.{update-sound}
 use Rattle.corrections.proofs.RunFrom.{RanFrom, run-from, good-is}
 use Rattle.corrections.proofs.Updates.{EndsIn, update-ends, update-growth, update-decks}
 use Rattle.corrections.proofs.YankingSet.{yanking-sets, sets-names}
-use Rattle.compile.specs.View.{view}
+use Rattle.walks.specs.View.{view}
 use Rattle.compile.specs.Compile.{compileView, compiling, ofWalk}
 use Rattle.demands.specs.Demands.{Runs, noRun, oneRun, setsIn, TakenBack, B1, B2}
 use Rattle.demands.proofs.Answers.{compile-good}

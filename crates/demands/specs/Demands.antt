@@ -18,7 +18,7 @@ use Rattle.library.specs.Sound.{Sound}
 use Rattle.corrections.specs.Step.{State, start}
 use Rattle.corrections.specs.Run.{ended, steps, newLibrary, running}
 use Rattle.corrections.specs.Units.{gather, setsOf, yankedNames, onlySets, isYankingSet}
-use Rattle.compile.specs.View.{view}
+use Rattle.walks.specs.View.{view}
 use Rattle.compile.specs.Compile.{compiling}
 
 -- the streams were run one after another, none refused: the first on `image`, each next on the image that the one ahead of it wrote, and the

@@ -14,7 +14,7 @@ use Rattle.library.specs.Library.{Library, fresh}
 use Rattle.library.specs.Image.{encode}
 use Rattle.corrections.specs.Run.{Running, newLibrary, badLibrary, badStream, running}
 use Rattle.corrections.specs.Units.{yankedNames, onlySets, isYankingSet}
-use Rattle.compile.specs.Walk.{walked, halted}
+use Rattle.walks.specs.Walk.{walked, halted}
 use Rattle.compile.specs.Compile.{Compiling, ofWalk, ofLibrary, compiling, fileOf}
 use Rattle.demands.specs.Shown.{streamOf, lineA, lineA3, lineB, wrote}
 use Rattle.demands.specs.Demands.{setsIn, Corrected, TakenBack}

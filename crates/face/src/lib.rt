@@ -1,7 +1,8 @@
 // What C calls. Each function answers 01's number and sets its values through references, in both cases.
 ghost use mathlib.Core.Path.{_≡_};
 ghost use lib.ListN.{length};
-ghost use Rattle.keeper.specs.Keeper.{freshing, freshInto, begunNumber, begunValue, listing, naming, told, showInto, toldNumber, toldValue};
+ghost use Rattle.naming.specs.Naming.{naming, told, showInto, toldNumber, toldValue};
+ghost use Rattle.keeper.specs.Keeper.{freshing, freshInto, begunNumber, begunValue, listing};
 ghost use Rattle.library.specs.Check.{check, checked, checkedNumber, checkedPlace};
 ghost use Rattle.corrections.specs.Run.{running, ran, runInto, ranNumber, ranValue};
 ghost use Rattle.compile.specs.Compile.{compiling, compiled, compileInto, compiledNumber, compiledFirst, compiledSecond};
@@ -26,7 +27,7 @@ pub extern "C" fn galdwist_unpack(bytes: &[u8], out: &mut [u8], written: &mut u6
     ensures space { λ _. ⌜ now (out .exit) ≡ unpackEightsInto (now (bytes .entry)) (now (out .entry)) ⌝ }
     ensures value { λ _. ⌜ now (written .exit) ≡ packingValue (unpackingEights (now (bytes .entry)) (length (now (out .entry)))) ⌝ }
 {
-    let answer = packing::unpack_bytes(bytes, out);
+    let answer = unpacking::unpack_bytes(bytes, out);
     *written = packing::packing_value(answer);
     packing::packing_number(answer)
 }
@@ -98,8 +99,8 @@ pub extern "C" fn galdwist_directory(image: &[u64], rows: &mut [u8], value: &mut
     ensures value { λ _. ⌜ now (value .exit) ≡ toldValue (told (listing (now (image .entry)) (length (now (rows .entry))))) ⌝ }
 {
     let answer = keeper::directory(image, rows);
-    *value = keeper::told_value(answer);
-    keeper::told_number(answer)
+    *value = naming::told_value(answer);
+    naming::told_number(answer)
 }
 
 // The name of a card: the bytes written, or the place of the fault, or 0.
@@ -115,7 +116,7 @@ pub extern "C" fn galdwist_card(
     ensures space { λ _. ⌜ now (out .exit) ≡ showInto (naming (now (image .entry)) owner seq (length (now (out .entry)))) (now (out .entry)) ⌝ }
     ensures value { λ _. ⌜ now (value .exit) ≡ toldValue (told (naming (now (image .entry)) owner seq (length (now (out .entry))))) ⌝ }
 {
-    let answer = keeper::card(image, owner, seq, out);
-    *value = keeper::told_value(answer);
-    keeper::told_number(answer)
+    let answer = naming::card(image, owner, seq, out);
+    *value = naming::told_value(answer);
+    naming::told_number(answer)
 }

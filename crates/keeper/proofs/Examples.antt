@@ -7,7 +7,8 @@ use Rattle.library.specs.Check.{check}
 use Rattle.library.specs.Image.{cardWords, encode}
 use Rattle.library.specs.Library.{stream, entryOf, deckNames, deckLine}
 use Rattle.library.specs.Yanks.{active, targets, yanksOf, settledYanks, yanked}
-use Rattle.keeper.specs.Keeper.{entryName, kindOf as kindOfEntry, rowOf, listing, naming}
+use Rattle.naming.specs.Naming.{entryName, naming}
+use Rattle.keeper.specs.Keeper.{kindOf as kindOfEntry, rowOf, listing}
 use Rattle.keeper.specs.Examples.{KeeperCases}
 
 pub keeper-cases : KeeperCases

@@ -1,8 +1,5 @@
-pub mod Counted
-pub mod Pointing
 pub mod Beginning
 pub mod Judging
-pub mod Entered
 pub mod Rowing
 pub mod Kinding
 pub mod Listing

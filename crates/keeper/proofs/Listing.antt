@@ -20,8 +20,8 @@ use Rattle.library.specs.Check.{good, check, directoryCount, directoryOf, cards
 use Rattle.library.proofs.Accepted.{check-accepted}
 use Rattle.library.proofs.CheckSound.{check-sound}
 use Rattle.library.proofs.CheckEncode.{check-encode}
-use Rattle.rows.specs.Found.{Tabled}
-use Rattle.rows.proofs.Tabling.{tabled}
+use Rattle.tables.specs.Found.{Tabled}
+use Rattle.tables.proofs.Tabling.{tabled}
 use Rattle.yanked.specs.Bytes.{part, flagged}
 use Rattle.image.specs.Places.{deckEnd}
 use Rattle.yanked.specs.Flags.{settledFlags}
@@ -30,10 +30,12 @@ use Rattle.yanked.proofs.Yanking.{settled-yanked}
 use Rattle.checks.specs.Walks.{Spans}
 use Rattle.checks.proofs.Walking.{read-walks}
 use Rattle.checks.proofs.Spanning.{walks-span}
-use Rattle.keeper.specs.Keeper.{entryName, deckKind, purgedOr, kindOf, yankMark, rowOf, firstRows, rowsOf, listed}
-use Rattle.keeper.specs.Parts.{Answers, wordName, rowBytes, rowAt, kindsOf, Kinds}
-use Rattle.keeper.specs.declared.Told.the-variants.{Done, Space}
-use Rattle.keeper.proofs.Judging.{directory-is, count-is, name-is}
+use Rattle.naming.specs.Naming.{entryName}
+use Rattle.naming.specs.Parts.{Answers, wordName}
+use Rattle.naming.specs.declared.Told.the-variants.{Done, Space}
+use Rattle.naming.proofs.Judging.{directory-is, count-is, name-is}
+use Rattle.keeper.specs.Keeper.{deckKind, purgedOr, kindOf, yankMark, rowOf, firstRows, rowsOf, listed}
+use Rattle.keeper.specs.Parts.{rowBytes, rowAt, kindsOf, Kinds}
 use Rattle.keeper.proofs.Rowing.{left-long, first-long}
 use Rattle.keeper.proofs.Kinding.{decksKinds, cards-decks, decks-kinds}
 
@@ -101,13 +103,13 @@ module _ (ws : List ℕ) (l : Library) (e : check ws ≡ good l) where
   rows-long : length (rowsOf l) ≡ directoryCount ws * 11
   rows-long = first-long (rowOf l) row-of-long (length (l .directory)) ∙ ap (λ (n : ℕ). n * 11) (count-is ws l e)
 
-  pub listed-short : (rows : List ℕ) → length rows < directoryCount ws * 11 → Answers (listed (length rows) l) Space rows rows
-  listed-short rows h =
-      let lt : length rows < length (rowsOf l) = omega (arith, rows-long) in
-      rw (lt-leb (length (rowsOf l)) (length rows) lt) (refl, refl)
+  module _ (n : ℕ) (is : n ≡ directoryCount ws) (rows : List ℕ) where
+    pub listed-short : length rows < n * 11 → Answers (listed (length rows) l) Space rows rows
+    listed-short h =
+        let lt : length rows < length (rowsOf l) = omega (arith, is, rows-long) in
+        rw (lt-leb (length (rowsOf l)) (length rows) lt) (refl, refl)
 
-  pub listed-all : (rows after : List ℕ) → directoryCount ws * 11 ≤ length rows → after ≡ rowsOf l ++ drop (directoryCount ws * 11) rows
-      → Answers (listed (length rows) l) (Done (directoryCount ws)) rows after
-  listed-all rows after h p =
-      let le : length (rowsOf l) ≤ length rows = omega (arith, rows-long) in
-      rw (le-leb (length (rowsOf l)) (length rows) le) (ap Done (sym (count-is ws l e)), p ∙ ap (λ (n : ℕ). rowsOf l ++ drop n rows) (sym rows-long))
+    pub listed-all : (after : List ℕ) → n * 11 ≤ length rows → after ≡ rowsOf l ++ drop (directoryCount ws * 11) rows → Answers (listed (length rows) l) (Done n) rows after
+    listed-all after h p =
+        let le : length (rowsOf l) ≤ length rows = omega (arith, is, rows-long) in
+        rw (le-leb (length (rowsOf l)) (length rows) le) (ap Done (is ∙ sym (count-is ws l e)), p ∙ ap (λ (k : ℕ). rowsOf l ++ drop k rows) (sym rows-long))

@@ -1,9 +1,10 @@
 -- Rows of eleven bytes, one after another. Assumes nothing.
 --   name-justified       a name in columns that were blank
+--   name-more, name-end  its letters copied
 --   row-put, row-long    one row
 --   first-long, rows-more              the rows of the first entries
 --   row-at-long, row-at-is             an entry's row
-use Prim.Native.Nat.{ℕ, zero, suc, _+_, _-_, _*_, _≤_}
+use Prim.Native.Nat.{ℕ, zero, suc, _+_, _-_, _*_, _≤_, _<_}
 use native.Mathlib.Omega.{arith}
 use native.Mathlib.Numerals.{add-one}
 use mathlib.Core.Path.{_≡_, refl, sym, ap, _∙_}
@@ -12,14 +13,15 @@ use mathlib.Core.List.{List, [], _∷_, _++_, append-assoc}
 use borrow.Rule.Slice.PartMut.{putMid, postOf}
 use lib.Dec.{eqb}
 use lib.ListN.{length, getD, take, drop, set, replicate, length-append, length-take, length-drop, length-replicate, replicate-append-replicate}
-use lib.Seq.{take-append-add, take-at, drop-at, drop-drop, set-at}
+use lib.Seq.{paste, paste-suc, take-all, take-append-add, take-at, drop-at, drop-drop, set-at}
 use Rattle.words.specs.Base.{if_then_else_}
 use Rattle.words.specs.Display.{blank}
 use Rattle.words.specs.Names.{nameOf, isNameWord, nameInto, leftJustified}
 use Rattle.yanked.specs.Bytes.{flagged}
+use Rattle.naming.specs.Parts.{wordName}
+use Rattle.naming.proofs.Pointing.{name-few}
 use Rattle.keeper.specs.Keeper.{firstRows, purgedOr, yankMark}
-use Rattle.keeper.specs.Parts.{wordName, rowBytes, rowAt}
-use Rattle.keeper.proofs.Pointing.{name-few}
+use Rattle.keeper.specs.Parts.{rowBytes, rowAt}
 
 -- BLANKS in nine columns
 blanks-behind : (k : ℕ) → k ≤ 9 → drop k (replicate 9 blank) ≡ replicate (9 - k) blank
@@ -56,6 +58,17 @@ left-long t = length-take 9 (t ++ replicate 9 blank) ∙ omega (arith, length-ap
 pub name-long : (w : ℕ) (o : List ℕ) → o ≡ nameInto w (replicate 9 blank) → length o ≡ 9
 name-long w o e = ap length (e ∙ name-justified w) ∙ left-long (wordName w)
 
+-- its letters copied one after another
+module _ (row name : List ℕ) (nine : length name ≡ 9) (long : length row ≡ 11) where
+  pub name-more : (now : List ℕ) (i : ℕ) → i < 9 → now ≡ paste row 0 name i → set now i (getD name i 0) ≡ paste row 0 name (i + 1)
+  name-more now i h e =
+      let z : 0 + i ≡ i = omega arith in
+      ap (λ (l : List ℕ). set l i (getD name i 0)) e ∙ ap (λ (k : ℕ). set (paste row 0 name i) k (getD name i 0)) (sym z)
+      ∙ paste-suc row 0 name i 0 (omega arith) (omega arith) ∙ ap (paste row 0 name) (sym (add-one i))
+
+  pub name-end : (now : List ℕ) (i : ℕ) → i ≡ 9 → now ≡ paste row 0 name i → now ≡ name ++ drop 9 row
+  name-end now i h e = e ∙ ap (paste row 0 name) h ∙ ap (λ (l : List ℕ). l ++ drop 9 row) (take-all 9 name (omega arith))
+
 -- ONE ROW
 pub row-long : (w kind : ℕ) (yk : Bool) → length (rowBytes w kind yk) ≡ 11
 unfolding rowBytes
@@ -71,14 +84,14 @@ two-more t (x ∷ y ∷ []) a b h l =
     ap (λ (r : List ℕ). set r 10 b) (set-at t x (y ∷ []) a 9 h ∙ sym (append-assoc t (a ∷ []) (y ∷ []))) ∙ set-at front y [] b 10 long ∙ append-assoc t (a ∷ []) (b ∷ [])
 two-more t (x ∷ y ∷ z ∷ s) a b h l = absurd (omega arith)
 
-pub row-put : (w kind : ℕ) (yk : Bool) (row name r : List ℕ) (a b : ℕ) → length row ≡ 11 → name ≡ nameInto w (replicate 9 blank) → r ≡ name ++ drop (0 + length name) row
+pub row-put : (w kind : ℕ) (yk : Bool) (row name r : List ℕ) (a b : ℕ) → length row ≡ 11 → name ≡ nameInto w (replicate 9 blank) → r ≡ name ++ drop 9 row
     → a ≡ purgedOr w kind → b ≡ yankMark yk → set (set r 9 a) 10 b ≡ rowBytes w kind yk
 unfolding rowBytes
 row-put w kind yk row name r a b long en er ea eb =
     let t : List ℕ = leftJustified 9 (wordName w) in
     let is : name ≡ t = en ∙ name-justified w in
     let nine : length name ≡ 9 = ap length is ∙ left-long (wordName w) in
-    ap (λ (x : List ℕ). set (set x 9 a) 10 b) er ∙ two-more name (drop (0 + length name) row) a b nine (length-drop (0 + length name) row ∙ omega arith)
+    ap (λ (x : List ℕ). set (set x 9 a) 10 b) er ∙ two-more name (drop 9 row) a b nine (length-drop 9 row ∙ omega arith)
     ∙ (λ i. is i ++ (ea i ∷ eb i ∷ []))
 
 -- THE ROWS of the first entries

@@ -10,7 +10,8 @@ use Rattle.words.specs.Base.{allOf, same, bytes}
 use Rattle.words.specs.Names.{nameWord}
 use Rattle.library.specs.Library.{Library, fresh, purged}
 use Rattle.library.specs.Image.{encode}
-use Rattle.keeper.specs.Keeper.{Showing, shows, notSound, tooLong, listing, naming, told, toldNumber, toldValue}
+use Rattle.naming.specs.Naming.{Showing, shows, notSound, tooLong, naming, told, toldNumber, toldValue}
+use Rattle.keeper.specs.Keeper.{listing}
 
 -- a deck with a card of its own and one of ONE, a purged entry, a common deck, and TWO, which yanks ONE
 abbrev pub sample : Library

@@ -1,16 +1,12 @@
 -- What the parts of the keeper's functions answer.
---   of a space           Answers, AnswersOf
---   a name               wordName, entryWord, pointed
 --   a row                rowBytes, rowAt, RowsOf
 --   the kinds of decks   kindPut, kindsOf, Kinds
-use Prim.Native.Nat.{ℕ, _+_, _-_, _*_}
+use Prim.Native.Nat.{ℕ, _-_, _*_}
 use mathlib.Core.Path.{_≡_}
 use mathlib.Core.Bool.{Bool}
 use mathlib.Core.List.{List, [], _∷_, _++_}
-use lib.Dec.{eqb, ltb}
 use lib.ListN.{length, getD, drop, set}
-use Rattle.words.specs.Base.{if_then_else_}
-use Rattle.words.specs.Names.{nameOf, isNameWord, numeral, leftJustified}
+use Rattle.words.specs.Names.{leftJustified}
 use Rattle.library.specs.Library.{Library, deckLine}
 use Rattle.library.specs.Check.{Stored, good, check, directoryCount}
 use Rattle.library.specs.Asked.{deckLineOf}
@@ -18,25 +14,8 @@ use Rattle.yanked.specs.Bytes.{flagged}
 use Rattle.checks.specs.Walks.{Spans}
 use Rattle.library.specs.declared.DeckLine.{DeckLine}
 use Rattle.library.specs.declared.DeckLine.the-variants.{NotDeck, BadDeck, Deck, Common}
-use Rattle.keeper.specs.Keeper.{Showing, told, showInto, rowsOf, purgedOr, yankMark}
-use Rattle.keeper.specs.declared.Told.{Told}
-
--- OF A SPACE: both answers; and those of an image that the check accepts
-abbrev pub Answers : Showing → Told → List ℕ → List ℕ → Type 0
-Answers s r before after = (r ≡ told s) × (after ≡ showInto s before)
-
-abbrev pub AnswersOf : List ℕ → (Library → Showing) → Told → List ℕ → List ℕ → Type 0
-AnswersOf ws f r before after = (l : Library) → check ws ≡ good l → Answers (f l) r before after
-
--- A NAME: the letters of a word, none where it is no name's; the word of an entry, 0 outside the directory
-unfoldable pub wordName : ℕ → List ℕ
-wordName w = if isNameWord w then nameOf w else []
-
-unfoldable pub entryWord : List ℕ → ℕ → ℕ
-entryWord ws n = if eqb n 0 then 0 else if ltb (directoryCount ws) n then 0 else getD ws (n + 1) 0
-
-abbrev pub pointed : List ℕ → ℕ → List ℕ
-pointed name seq = name ++ (46 ∷ numeral seq)
+use Rattle.naming.specs.Parts.{wordName}
+use Rattle.keeper.specs.Keeper.{rowsOf, purgedOr, yankMark}
 
 -- A ROW from an entry's word, its kind and its flag
 unfoldable pub rowBytes : ℕ → ℕ → Bool → List ℕ

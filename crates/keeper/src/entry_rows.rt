@@ -5,20 +5,18 @@ ghost use Prim.Native.Nat.{_*_, _≤_, _<_};
 ghost use lib.Dec.{eqb};
 ghost use lib.ListN.{length, drop};
 ghost use Rattle.library.specs.Check.{directoryCount, directoryOf};
-ghost use Rattle.rows.specs.Found.{Sized, Tabled};
+ghost use Rattle.tables.specs.Found.{Sized, Tabled};
 ghost use Rattle.yanked.specs.Bytes.{part};
 ghost use Rattle.image.specs.Places.{deckEnd};
 ghost use Rattle.yanked.specs.Flags.{settledFlags};
-ghost use Rattle.keeper.specs.Keeper.{listed, listing, told, showInto, firstRows, purgedOr, yankMark};
-ghost use Rattle.keeper.specs.Parts.{AnswersOf, RowsOf, rowBytes, rowAt};
-use crate::Told;
-use crate::bytes::put_bytes;
-use crate::entries::COUNT;
-use crate::entries::COUNTS;
-use crate::entries::DIRECTORY;
+ghost use Rattle.naming.specs.Naming.{told, showInto};
+ghost use Rattle.naming.specs.Parts.{AnswersOf};
+ghost use Rattle.keeper.specs.Keeper.{listed, listing, firstRows, purgedOr, yankMark};
+ghost use Rattle.keeper.specs.Parts.{RowsOf, rowBytes, rowAt};
 use crate::kinds::SET;
 use crate::kinds::put_kinds;
 use library::Checked;
+use naming::Told;
 
 // a row: the name left justified in 9 columns, what the entry is, whether it is yanked
 const NAME: usize = 9;
@@ -41,6 +39,9 @@ const PURGED_WORD: u64 = 0o20;
 // a place for each directory number, 0 to 1,023
 const ENTRIES: usize = 1024;
 
+// the directory stands after the two words of the header
+const DIRECTORY: usize = 2;
+
 fn kind_byte(w: u64, kind: u8) -> u8
     ensures { λ r. ⌜ r ≡ purgedOr w kind ⌝ }
 {
@@ -53,14 +54,26 @@ fn mark_byte(flag: u64) -> u8
     if flag == 1 { YANKED } else { BLANK }
 }
 
+// The name in its columns.
+fn put_name(name: &[u8], row: &mut [u8])
+    requires { ⌜ (length (now name) ≡ 9) × (length (now row) ≡ 11) ⌝ }
+    ensures { λ _. ⌜ now (row .exit) ≡ now (name .entry) ++ drop 9 (now (row .entry)) ⌝ }
+{
+    let mut i = 0;
+    while i < NAME {
+        row[i] = name[i];
+        i += 1;
+    }
+}
+
 // The row of an entry of this word, kind and flag.
 fn put_row(w: u64, kind: u8, flag: u64, row: &mut [u8])
     requires { ⌜ length (now row) ≡ 11 ⌝ }
     ensures { λ _. ⌜ now (row .exit) ≡ rowBytes w kind (eqb flag 1) ⌝ }
 {
     let mut name = [BLANK; NAME];
-    words::name_of_word(w, &mut name);
-    put_bytes(&name, row, 0);
+    spelling::name_of_word(w, &mut name);
+    put_name(&name, row);
     row[KIND] = kind_byte(w, kind);
     row[MARK] = mark_byte(flag);
 }
@@ -113,7 +126,7 @@ fn directory_sound(image: &[u64], rows: &mut [u8]) -> Told
     requires { ⌜ Tabled (now image) ⌝ }
     ensures { λ r. ⌜ AnswersOf (now (image .entry)) (listed (length (now (rows .entry)))) r (now (rows .entry)) (now (rows .exit)) ⌝ }
 {
-    let n = (image[COUNTS] / COUNT) as usize;
+    let n = tables::entries_of(image);
     if rows.len() < n * ROW {
         return Told::Space;
     }

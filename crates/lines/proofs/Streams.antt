@@ -1,17 +1,18 @@
 -- The lines of a stream, one after another: what a loop over them cites. Assumes nothing.
 --   no line at or past the end                        lines-none
 --   the line at a place, and those after its end      lines-more
---   where it ends, and where those start              line-within, after-line
+--   where it ends, and where those start              line-within, after-line, line-after-is
 use mathlib.Core.Path.{_≡_, refl, sym, ap, _∙_}
 use mathlib.Core.Bool.{Bool, true, false}
 use mathlib.Core.List.{List, [], _∷_}
-use Prim.Native.Nat.{ℕ, _+_, _≤_, _<_}
+use Prim.Native.Nat.{ℕ, _+_, _^_, _≤_, _<_}
 use native.Mathlib.Nat.{add-assoc}
 use native.Mathlib.Omega.{arith}
 use lib.ListN.{length, drop, length-drop, drop-of-length-le}
 use lib.Seq.{drop-drop}
+use borrow.Author.Tests.{le-ltb}
 use Rattle.words.specs.Base.{if_then_else_, takeUntil, dropUntil, into}
-use Rattle.lines.specs.Directive.{isEnd, lineOf, afterLine, lines}
+use Rattle.lines.specs.Directive.{isEnd, lineOf, afterLine, lineAfter, lines}
 use Rattle.lines.proofs.Cutting.{reach-within, drop-reach}
 
 first-line : (s : List ℕ) → 0 < length s → lines s ≡ lineOf s ∷ lines (afterLine s)
@@ -47,3 +48,7 @@ module _ (s : List ℕ) (at : ℕ) where
   after-line =
       let n = length (takeUntil isEnd (drop at s)) in
       ap (drop 1) (sym (drop-reach isEnd (drop at s))) ∙ drop-drop 1 n (drop at s) ∙ drop-drop (n + 1) at s ∙ ap (λ k. drop k s) (sym (add-assoc at n 1))
+
+pub line-after-is : (at k : ℕ) → at ≤ 2 ^ 62 → lineAfter at k ≡ at + k + 1
+unfolding lineAfter
+line-after-is at k h = rw (le-ltb (2 ^ 62) at h)

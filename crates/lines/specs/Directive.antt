@@ -1,12 +1,12 @@
 -- Lines and what they ask (01, "Directives"; rows 20 to 23).
---   lines of a stream      lines, lineOf, afterLine
+--   lines of a stream      lines, lineOf, afterLine, lineAfter
 --   names of directives    table, kindOf
 --   a directive's parts    starts, nameOfLine, kindOfLine, field, isClean, params
 --   cards                  isCard, cardOf
 --   what a line asks       directive, lineNumber
 --   YANK's names           yankNames
 --   CALL                   callOf
-use Prim.Native.Nat.{ℕ, zero, suc}
+use Prim.Native.Nat.{ℕ, zero, suc, _+_, _^_}
 use Prim.Native.String.{String}
 use mathlib.Core.Bool.{Bool, true, false, _&&_, _||_, not}
 use mathlib.Core.List.{List, [], _∷_, _++_, map}
@@ -33,6 +33,10 @@ lineOf s = takeUntil isEnd s
 
 unfoldable pub afterLine : List ℕ → List ℕ
 afterLine s = beyond isEnd s
+
+-- where the line after one of k bytes at a place starts; a place beyond 2^62, past any stream (19), stays where it is
+unfoldable pub lineAfter : ℕ → ℕ → ℕ
+lineAfter at k = if ltb (2 ^ 62) at then at else at + k + 1
 
 unfoldable pub lines : List ℕ → List (List ℕ)
 lines [] = []

@@ -173,7 +173,7 @@ pub fn call_of(line: &[u8]) -> Call
     if !is_clean(line) {
         return Call::Malformed;
     }
-    let word = words::word_of_name(field_of(line));
+    let word = spelling::word_of_name(field_of(line));
     if word == 0 {
         return Call::Malformed;
     }

@@ -33,7 +33,7 @@ pub fn next_name(field: &[u8], at: usize) -> NameStep
     }
     let p = part_at(field, at, Stop::Parameter);
     NameStep::Name {
-        word: words::word_of_name(p),
+        word: spelling::word_of_name(p),
         next: at + (p.len() + 1),
     }
 }
@@ -73,11 +73,11 @@ fn none_empty(field: &[u8]) -> bool
 pub(crate) fn name_field(field: &[u8]) -> NameField
     ensures { λ r. ⌜ r ≡ nameRead (now (field .entry)) ⌝ }
 {
-    let word = words::word_of_name(field);
+    let word = spelling::word_of_name(field);
     if word != 0 {
         return NameField::One(word);
     }
-    if words::word_of_name(part_at(field, 0, Stop::Parameter)) == 0 {
+    if spelling::word_of_name(part_at(field, 0, Stop::Parameter)) == 0 {
         return NameField::No;
     }
     if none_empty(field) {
@@ -91,8 +91,8 @@ pub(crate) fn name_field(field: &[u8]) -> NameField
 pub(crate) fn card_of(p: &[u8]) -> CardName
     ensures { λ r. ⌜ r ≡ cardRead (now (p .entry)) ⌝ }
 {
-    let name = words::word_of_name(part_at(p, 0, Stop::Point));
-    let seq = words::number_read(part_after(p, Stop::Point));
+    let name = spelling::word_of_name(part_at(p, 0, Stop::Point));
+    let seq = spelling::number_read(part_after(p, Stop::Point));
     if name == 0 {
         return CardName { name: 0, seq: 0 };
     }

@@ -2,7 +2,7 @@
 --   lists below a bound   Below, all-below, below-all, below-known, below-at, below-take, below-drop, below-append
 --   highest first         bytes-below, number-join, number-so, number-div, number-bytes, bytes-number
 --   lowest first          low-number, low-bytes
---   eight at a place      eight-at, sets-all, highs, highs-are, lows, lows-are
+--   eight at a place      eight-at, sets-all, highs, highs-are
 use mathlib.Core.Path.{_≡_, refl, ap, _∙_}
 use mathlib.Core.Bool.{Bool, true, false, _&&_}
 use mathlib.Core.List.{List, [], _∷_, _++_, append-nil}
@@ -133,9 +133,3 @@ highs w = w / 2 ^ 56 % 256 ∷ w / 2 ^ 48 % 256 ∷ w / 2 ^ 40 % 256 ∷ w / 2 ^
 
 pub highs-are : (w : ℕ) → highs w ≡ bytesOf 8 w
 highs-are w = simp div-one
-
-abbrev pub lows : ℕ → List ℕ
-lows w = w % 256 ∷ w / 2 ^ 8 % 256 ∷ w / 2 ^ 16 % 256 ∷ w / 2 ^ 24 % 256 ∷ w / 2 ^ 32 % 256 ∷ w / 2 ^ 40 % 256 ∷ w / 2 ^ 48 % 256 ∷ w / 2 ^ 56 % 256 ∷ []
-
-pub lows-are : (w : ℕ) → lows w ≡ lowBytes 8 w
-lows-are w = simp div-div-eq-div-mul

@@ -1,18 +1,17 @@
 -- What is answered and what the space then holds, one law for each way out of the code.
 --   packing               Leaves, pack-wide, pack-short, pack-done
 --   words as eight bytes  eights-odd, eights-even, eights-count
---   unpacking             answer-length, answer-whole, answer-short, answer-tail, answer-last, Accepted, accepted, unpack-done
---   to eight bytes        unpack-eights-odd, unpack-eights-even, unpack-eights-done
+--   unpacking             answer-length, answer-whole, answer-short, answer-tail, answer-last, Accepted, accepted
 use mathlib.Core.Path.{_≡_, refl, ap}
 use mathlib.Core.Bool.{Bool, true, false, not}
 use mathlib.Core.List.{List, _++_}
-use Prim.Native.Nat.{ℕ, zero, suc, _+_, _-_, _*_, _/_, _%_, _≤_, _<_}
+use Prim.Native.Nat.{ℕ, zero, suc, _+_, _-_, _%_, _≤_, _<_}
 use native.Mathlib.Omega.{arith}
 use lib.Dec.{ltb}
 use lib.ListN.{length, getD, drop}
 use borrow.Author.Tests.{ltb-false, lt-ltb, le-ltb, le-leb, lt-leb, eq-eqb, ne-eqb}
 use Rattle.words.specs.Base.{if_then_else_, all}
-use Rattle.packing.specs.Pack.{packed, packedLength, packing, packInto, left, isPackedLength, hasTail, unpacked, unpackedLength, unpacking, unpackInto, wordsFrom, wordsOfEights, eights, packingEights, packEightsInto, timesEight, unpackingEights, unpackEightsInto}
+use Rattle.packing.specs.Pack.{packed, packedLength, packing, packInto, left, isPackedLength, hasTail, unpackedLength, unpacking, wordsFrom, wordsOfEights, packingEights, packEightsInto}
 use Rattle.words.specs.Base.{isWord}
 use Rattle.packing.specs.declared.Packing.{Packing}
 use Rattle.packing.specs.declared.Packing.the-variants.{Done, Length, Tail, Space}
@@ -96,22 +95,3 @@ accepted bs room n e = ways (isPackedLength (length bs)) (ltb room (unpackedLeng
     ways true true t er es et d = absurd (let z : _≡_ {A = ℕ} 0 1 = cc in omega arith)
     ways true false true er es et d = absurd (let z : _≡_ {A = ℕ} 0 1 = cc in omega arith)
     ways true false false er es et d = record { count = cc; right = er; tail = et; fits = ltb-false room (unpackedLength (length bs)) es }
-
-module _ (bs space : List ℕ) where
-  pub unpack-done : (n : ℕ) → unpacking bs (length space) ≡ Done n → unpacked bs ++ drop (unpackedLength (length bs)) space ≡ unpackInto bs space
-  unfolding left
-  unpack-done n e = rw (e, ← accepted bs (length space) n e .count)
-
-  -- as eight bytes
-  pub unpack-eights-odd : (length space % 8 ≡ 0 → ⊥) → (Length ≡ unpackingEights bs (length space)) × (space ≡ unpackEightsInto bs space)
-  unfolding unpackingEights left
-  unpack-eights-odd h = (rw (ne-eqb (length space % 8) 0 h), rw (ne-eqb (length space % 8) 0 h))
-
-  pub unpack-eights-even : {p : Packing} → length space % 8 ≡ 0 → unpacking bs (length space / 8) ≡ p → unpackingEights bs (length space) ≡ timesEight p
-  unfolding unpackingEights
-  unpack-eights-even h e = rw (eq-eqb (length space % 8) 0 h) (ap timesEight e)
-
-  pub unpack-eights-done : (n : ℕ) → length space % 8 ≡ 0 → unpacking bs (length space / 8) ≡ Done n
-      → eights (unpacked bs) ++ drop (unpackedLength (length bs) * 8) space ≡ unpackEightsInto bs space
-  unfolding left
-  unpack-eights-done n h e = rw (unpack-eights-even h e, ← accepted bs (length space / 8) n e .count)

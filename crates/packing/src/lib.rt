@@ -1,12 +1,17 @@
-// Words of 60 bits packed to bytes and back.
+// Words of 60 bits packed to bytes.
 mod packer;
 
+pub use packer::EIGHT;
+pub use packer::HALF;
+pub use packer::LIMIT;
+pub use packer::NIBBLE;
+pub use packer::PAIR;
+pub use packer::SECOND;
+pub use packer::TWO;
 pub use packer::pack;
 pub use packer::pack_bytes;
 pub use packer::packing_number;
 pub use packer::packing_value;
-pub use packer::unpack;
-pub use packer::unpack_bytes;
 
 // What packing or unpacking answers: how many bytes or words were written, or why not.
 pub enum Packing {

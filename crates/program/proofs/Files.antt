@@ -20,11 +20,11 @@ use Rattle.packing.proofs.PackTrip.{unpacked-length}
 use Rattle.library.specs.Library.{Library}
 use Rattle.library.specs.Check.{Checking, good, bad, check, faultNumber}
 use Rattle.library.specs.declared.Fault.{Fault}
-use Rattle.compile.specs.View.{view}
-use Rattle.compile.specs.Walk.{Walk, walked, halted}
-use Rattle.compile.specs.Steps.{State, decksOf}
+use Rattle.walks.specs.View.{view}
+use Rattle.walks.specs.Walk.{Walk, walked, halted}
+use Rattle.walks.specs.Steps.{State, decksOf}
 use Rattle.compile.specs.Compile.{compileView, Compiling, ofWalk, ofLibrary, fromChecked, compiling, compiled, fileOf, compileInto, stopNumber, compiledNumber, refusedLine, cardPlace, programOf, afterUnpacking, program}
-use Rattle.compile.specs.declared.Stop.{Stop}
+use Rattle.walks.specs.declared.Stop.{Stop}
 use Rattle.compile.specs.declared.Compiled.{Compiled}
 use Rattle.compile.specs.declared.Compiled.the-variants.{Done, Library as OfLibrary, Refused}
 use Rattle.compile.proofs.Following.{Fits, Follows, decks-follows}

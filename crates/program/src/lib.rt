@@ -47,7 +47,7 @@ fn put_packed(input: &[u8], words: &mut [u64], out: &mut [u8]) -> usize
     requires { ⌜ (length (now words) ≡ 4096) × (length (now out) ≡ 65520) ⌝ }
     ensures { λ r. ⌜ Wrote (afterUnpacking (unpacking (now (input .entry)) 4096) (unpacked (now (input .entry)))) r (now (out .entry)) (now (out .exit)) ⌝ }
 {
-    let answer = packing::unpack(input, words);
+    let answer = unpacking::unpack(input, words);
     let number = packing::packing_number(answer);
     match answer {
         Packing::Done(n) => put_file(&words[..n], out),

@@ -50,7 +50,7 @@ fn put_numeral(n: u64, out: &mut [u8], at: usize) -> usize
     ensures { λ _. ⌜ now (out .exit) ≡ written (numeral n) at (now (out .entry)) ⌝ }
 {
     let mut field = [BLANK; DIGITS];
-    words::put_number(n, &mut field);
+    spelling::put_number(n, &mut field);
     let start = digits_at(&field);
     put_text(&field[start..], out, at)
 }

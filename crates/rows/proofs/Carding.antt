@@ -1,7 +1,7 @@
 -- Rows 5 and 6 card by card: what is left to read at a place, one law for each way out of the code. Assumes nothing.
 --   Begun, begun       a card whose form is right, and where its text starts
 --   cards-..           the answer from a place on
---   Passed, passed     such a card, and the next
+--   Ended, ended       a text that passes, and the next card
 --   turn-..            the answer after n cards
 use Prim.Native.Nat.{ℕ, zero, suc, _+_, _-_, _/_, _%_, _^_, _≤_, _<_}
 use native.Mathlib.Omega.{arith}
@@ -15,12 +15,11 @@ use Rattle.words.specs.Base.{if_then_else_, placeFrom}
 use Rattle.words.specs.Text.{isText}
 use Rattle.library.specs.declared.Fault.the-variants.{Form, Text}
 use Rattle.library.specs.declared.Found.the-variants.{At, Nothing}
-use Rattle.library.specs.declared.Checked.{Checked}
 use Rattle.library.specs.declared.Checked.the-variants.{Sound, Refused}
 use Rattle.library.specs.Check.{directoryCount, deckCount, cardsPlace, Stored, Fields, Cards, cards, fault, also, fieldsOf, storedOf, isLastWord, okForm, readCard, readCards}
-use Rattle.rows.specs.Found.{cardsRead, cardsAnswer, textOf, textAt}
+use Rattle.rows.specs.Found.{cardsRead, cardsAnswer, answerFrom, textOf, textAt, textCount, endAt}
 use Rattle.rows.proofs.Placing.{first-at, Formed, formed-at}
-use Rattle.rows.proofs.Listing.{entries-are}
+use Rattle.tables.proofs.Listing.{entries-are}
 
 module _ (directory ws : List ℕ) (at : ℕ) where
   -- the words of the text, as a part of the image
@@ -31,22 +30,24 @@ module _ (directory ws : List ℕ) (at : ℕ) where
   pub record Begun (text : ℕ) : Type 0 where
     pub card : Formed directory ws at
     pub starts : text ≡ at + card .heads
+    pub later : at < text
+    pub within : text + textCount ws at ≤ length ws
 
   unfoldable pub begun : (text : ℕ) → at < length ws → textAt directory ws at ≡ At text → Begun text
   unfolding textAt formed-at
   begun text inside e = go (placeFrom isLastWord 1 (drop at ws)) refl e
     where
       pass : (k : ℕ) → placeFrom isLastWord 1 (drop at ws) ≡ some k → (b : Bool) → okForm directory (fieldsOf (drop at ws) k) ≡ b → (if b then At (at + k) else Nothing) ≡ At text → Begun text
-      pass k p true f e = let z : at + k ≡ text = cc in record { card = formed-at directory ws at inside k p f; starts = sym z }
+      pass k p true f e =
+          let z : at + k ≡ text = cc in
+          let h : 0 < k = formed-at directory ws at inside k p f .some-heads in
+          let w : at + k + textCount ws at ≤ length ws = formed-at directory ws at inside k p f .within in
+          record { card = formed-at directory ws at inside k p f; starts = sym z; later = omega arith; within = omega arith }
       pass k p false f e = absurd (let z : _≡_ {A = ℕ} 0 1 = cc in omega arith)
 
       go : (o : Option ℕ) → placeFrom isLastWord 1 (drop at ws) ≡ o → textOf directory ws at o ≡ At text → Begun text
       go none p e = absurd (let z : _≡_ {A = ℕ} 0 1 = cc in omega arith)
       go (some k) p e = pass k p (okForm directory (fieldsOf (drop at ws) k)) refl e
-
--- what is read from a place on
-abbrev pub answerFrom : List ℕ → List ℕ → ℕ → ℕ → Checked
-answerFrom directory ws left at = cardsAnswer (readCards directory left (drop at ws) at)
 
 answer-also : (s : Stored) (c : Cards) → cardsAnswer (also s c) ≡ cardsAnswer c
 answer-also s (cards ss) = refl
@@ -107,32 +108,43 @@ module _ (directory ws : List ℕ) (at : ℕ) where
             ∙ ap (λ (l : List ℕ). cardsAnswer (readCards directory left l (at + k))) (drop-drop k at ws)
             ∙ ap (answerFrom directory ws left) z
 
--- a card whose text starts at a place, and the next card
-pub record Passed (directory ws : List ℕ) (at text next : ℕ) : Type 0 where
-  pub card : Formed directory ws at
-  pub later : at < next
-  pub order : text ≤ next
-  pub within : next ≤ length ws
-  pub count : next ≡ at + card .heads + getD ws at 0 / 2 ^ 36 % 2 ^ 18
-  pub part : fieldsOf (drop at ws) (card .heads) .text ≡ take (next - text) (drop text ws)
+-- a text that passes row 6, and the next card
+module _ (ws : List ℕ) (at text : ℕ) where
+  abbrev part : List ℕ
+  part = take (textCount ws at) (drop text ws)
 
-unfoldable pub passed : (directory ws : List ℕ) (at : ℕ) → at < length ws → (text next : ℕ) → textAt directory ws at ≡ At text → next ≡ text + getD ws at 0 / 2 ^ 36 % 2 ^ 18
-    → Passed directory ws at text next
-passed directory ws at inside text next e n =
-    let b : Begun directory ws at text = begun directory ws at text inside e in
-    let c : Formed directory ws at = b .card in
-    let t : text ≡ at + c .heads = b .starts in
-    let w : at + c .heads + getD ws at 0 / 2 ^ 36 % 2 ^ 18 ≤ length ws = c .within in
-    let h : 0 < c .heads = c .some-heads in
-    let d : getD ws at 0 / 2 ^ 36 % 2 ^ 18 ≡ next - text = omega arith in
-    record {
-      card = c;
-      later = omega arith;
-      order = omega arith;
-      within = omega arith;
-      count = omega arith;
-      part = text-part directory ws at (c .heads) ∙ ap (λ (m : ℕ). take m (drop (at + c .heads) ws)) d ∙ ap (λ (m : ℕ). take (next - text) (drop m ws)) (sym t);
-    }
+  pub record Ended (end : ℕ) : Type 0 where
+    pub passes : isText part ≡ true
+    pub count : end ≡ text + textCount ws at
+
+  unfoldable pub ended : (end : ℕ) → endAt ws at text ≡ At end → Ended end
+  unfolding endAt
+  ended end e = go (isText part) refl e
+    where
+      go : (b : Bool) → isText part ≡ b → (if b then At (text + textCount ws at) else Nothing) ≡ At end → Ended end
+      go true t e = let z : text + textCount ws at ≡ end = cc in record { passes = t; count = sym z }
+      go false t e = absurd (let z : _≡_ {A = ℕ} 0 1 = cc in omega arith)
+
+  pub no-end : endAt ws at text ≡ Nothing → isText part ≡ false
+  unfolding endAt
+  no-end e = go (isText part) refl e
+    where
+      go : (b : Bool) → isText part ≡ b → (if b then At (text + textCount ws at) else Nothing) ≡ Nothing → isText part ≡ false
+      go true t e = absurd (let z : _≡_ {A = ℕ} 0 1 = cc in omega arith)
+      go false t e = t
+
+  -- the part that is lent is the text
+  module _ (end : ℕ) (e : end ≡ text + textCount ws at) where
+    lent : take (end - text) (drop text ws) ≡ part
+    lent = let z : end - text ≡ textCount ws at = omega arith in ap (λ (n : ℕ). take n (drop text ws)) z
+
+    pub end-there : isText (take (end - text) (drop text ws)) ≡ true → At end ≡ endAt ws at text
+    unfolding endAt
+    end-there t = ap At e ∙ sym (ap (λ (b : Bool). if b then At (text + textCount ws at) else Nothing) (ap isText (sym lent) ∙ t))
+
+    pub end-not : isText (take (end - text) (drop text ws)) ≡ false → Nothing ≡ endAt ws at text
+    unfolding endAt
+    end-not t = sym (ap (λ (b : Bool). if b then At (text + textCount ws at) else Nothing) (ap isText (sym lent) ∙ t))
 
 -- "card beyond 16,383": n cards are passed
 module _ (directory ws : List ℕ) (at n : ℕ) (inside : at < length ws) where
@@ -146,15 +158,21 @@ module _ (directory ws : List ℕ) (at n : ℕ) (inside : at < length ws) where
     pub turn-form : textAt directory ws at ≡ Nothing → answerFrom directory ws (16383 - n) at ≡ Refused Form at
     turn-form e = ap (λ (m : ℕ). answerFrom directory ws m at) one-less ∙ cards-form directory ws at inside (16383 - (n + 1)) e
 
-    module _ (text next : ℕ) (p : Passed directory ws at text next) where
-      pub turn-text : isText (take (next - text) (drop text ws)) ≡ false → answerFrom directory ws (16383 - n) at ≡ Refused Text at
-      turn-text e = ap (λ (m : ℕ). answerFrom directory ws m at) one-less ∙ cards-text directory ws at inside (16383 - (n + 1)) (p .card) (ap isText (p .part) ∙ e)
+    module _ (text : ℕ) (b : Begun directory ws at text) where
+      text-is : fieldsOf (drop at ws) (b .card .heads) .text ≡ part ws at text
+      text-is = text-part directory ws at (b .card .heads) ∙ ap (λ (m : ℕ). take (textCount ws at) (drop m ws)) (sym (b .starts))
 
-      pub turn-on : isText (take (next - text) (drop text ws)) ≡ true → answerFrom directory ws (16383 - n) at ≡ answerFrom directory ws (16383 - (n + 1)) next
-      turn-on e = ap (λ (m : ℕ). answerFrom directory ws m at) one-less ∙ cards-on directory ws at inside (16383 - (n + 1)) (p .card) (ap isText (p .part) ∙ e) next (p .count)
+      pub turn-text : endAt ws at text ≡ Nothing → answerFrom directory ws (16383 - n) at ≡ Refused Text at
+      turn-text e = ap (λ (m : ℕ). answerFrom directory ws m at) one-less ∙ cards-text directory ws at inside (16383 - (n + 1)) (b .card) (ap isText text-is ∙ no-end ws at text e)
+
+      pub turn-on : (end : ℕ) → Ended ws at text end → answerFrom directory ws (16383 - n) at ≡ answerFrom directory ws (16383 - (n + 1)) end
+      turn-on end d =
+          let s : text ≡ at + b .card .heads = b .starts in
+          let k : end ≡ text + textCount ws at = d .count in
+          ap (λ (m : ℕ). answerFrom directory ws m at) one-less ∙ cards-on directory ws at inside (16383 - (n + 1)) (b .card) (ap isText text-is ∙ d .passes) end (omega arith)
 
 -- all cards, with the directory as it is lent
-pub cards-start : (ws : List ℕ) (e d : ℕ) → e ≡ directoryCount ws → d ≡ deckCount ws → cardsAnswer (cardsRead ws) ≡ answerFrom (take (2 + e - 2) (drop 2 ws)) ws (16383 - 0) (2 + e + d)
+pub cards-start : (ws : List ℕ) (e d : ℕ) → e ≡ directoryCount ws → d ≡ deckCount ws → cardsAnswer (cardsRead ws) ≡ answerFrom (take (2 + e - 2) (drop 2 ws)) ws 16383 (2 + e + d)
 cards-start ws e d p q =
     ap (λ (l : List ℕ). answerFrom l ws 16383 (cardsPlace ws)) (sym (entries-are ws e p))
     ∙ ap (λ (m : ℕ). answerFrom (take (2 + e - 2) (drop 2 ws)) ws 16383 (2 + m + deckCount ws)) (sym p)

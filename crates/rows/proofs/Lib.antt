@@ -1,6 +1,4 @@
 pub mod Placing
-pub mod Tabling
-pub mod Listing
 pub mod Forming
 pub mod Seeing
 pub mod Testing

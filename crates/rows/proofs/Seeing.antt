@@ -1,25 +1,15 @@
--- The words ahead of a card's text. Assumes nothing.
---   found-some, found-none   an answer read back
---   heads-within             they lie in the image
+-- The words ahead of a card's text lie in the image. Assumes nothing.
 use Prim.Native.Nat.{ℕ, _+_, _-_, _≤_, _<_}
 use native.Mathlib.Omega.{arith}
-use mathlib.Core.Path.{_≡_, refl, ap}
+use mathlib.Core.Path.{_≡_}
 use mathlib.Core.List.{List}
-use mathlib.Core.Option.{Option, none, some}
 use lib.ListN.{length, drop, length-drop}
 use Rattle.words.specs.Base.{placeFrom}
 use Rattle.library.specs.Check.{isLastWord}
-use Rattle.library.specs.declared.Found.the-variants.{At, Nothing}
-use Rattle.rows.specs.Found.{found}
+use Rattle.library.specs.declared.Found.the-variants.{At}
+use Rattle.tables.specs.Found.{found}
+use Rattle.tables.proofs.Answering.{found-some}
 use Rattle.rows.proofs.Placing.{placed-within}
-
-pub found-some : (o : Option ℕ) (k : ℕ) → found o ≡ At k → o ≡ some k
-found-some (some j) k e = let z : j ≡ k = cc in ap some z
-found-some none k e = absurd (let z : _≡_ {A = ℕ} 0 1 = cc in omega arith)
-
-pub found-none : (o : Option ℕ) → found o ≡ Nothing → o ≡ none
-found-none (some j) e = absurd (let z : _≡_ {A = ℕ} 0 1 = cc in omega arith)
-found-none none e = refl
 
 module _ (ws : List ℕ) (at : ℕ) where
   pub heads-within : (k : ℕ) → at ≤ length ws → found (placeFrom isLastWord 1 (drop at ws)) ≡ At k → (0 < k) × (at + k ≤ length ws)

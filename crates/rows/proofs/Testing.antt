@@ -21,12 +21,13 @@ use Rattle.words.specs.Base.{if_then_else_, allOf, isNil, placeFrom}
 use Rattle.library.specs.Library.{purged}
 use Rattle.library.specs.Check.{isLastWord, used, okByte}
 use Rattle.library.specs.declared.Found.the-variants.{At, Nothing}
-use Rattle.rows.specs.Found.{found, Sized, textOf, textAt}
+use Rattle.tables.specs.Found.{found, Sized}
+use Rattle.rows.specs.Found.{textOf, textAt}
 use Rattle.rows.specs.WordForm.{okNumber, okNumbers, bytesIn, okFull, okLast, okFurther, firstTests, wordTests}
 use Rattle.library.proofs.Searching.{place-here}
-use Rattle.rows.proofs.Listing.{and-true, and-false}
+use Rattle.tables.proofs.Listing.{and-true, and-false}
+use Rattle.tables.proofs.Answering.{found-some, found-none}
 use Rattle.rows.proofs.Forming.{and-left, used-none, used-some, used-more, form-words}
-use Rattle.rows.proofs.Seeing.{found-some, found-none}
 use Rattle.rows.proofs.Placing.{first-at}
 
 pub never : false ≡ true → ⊥

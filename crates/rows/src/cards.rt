@@ -5,15 +5,14 @@ ghost use Prim.Native.Nat.{_+_, _-_, _/_, _%_, _^_, _≤_, _<_};
 ghost use lib.ListN.{length, drop};
 ghost use Rattle.words.specs.Base.{allOf, placeFrom};
 ghost use Rattle.library.specs.Check.{isLastWord};
-ghost use Rattle.rows.specs.Found.{found, cardsRead, cardsAnswer, Sized, Tabled, textAt};
+ghost use Rattle.tables.specs.Found.{found, Sized, Tabled};
+ghost use Rattle.rows.specs.Found.{cardsRead, cardsAnswer, answerFrom, textCount, textAt, endAt};
 ghost use Rattle.rows.specs.WordForm.{okNumber, okFull, okLast, okFurther, firstTests, wordTests};
-use crate::tables::DIRECTORY;
-use crate::tables::PURGED;
-use crate::tables::decks_of;
-use crate::tables::entries_of;
 use library::Checked;
 use library::Fault;
 use library::Found;
+use tables::DIRECTORY;
+use tables::PURGED;
 
 // bit 59, set when no more history words follow
 const LAST: u64 = 0o40000000000000000000;
@@ -204,15 +203,27 @@ fn text_of(image: &[u64], directory: &[u64], at: usize) -> Found
     }
 }
 
-// Rows 5 and 6, card by card.
-pub(crate) fn cards_fault(image: &[u64]) -> Checked
+// Where the card at a place ends whose text starts at `from`, if the text passes row 6.
+fn end_of(image: &[u64], at: usize, from: usize) -> Found
     requires { ⌜ Sized (now image) ⌝ }
-    requires { ⌜ Tabled (now image) ⌝ }
-    ensures { λ r. ⌜ r ≡ cardsAnswer (cardsRead (now (image .entry))) ⌝ }
+    requires { ⌜ at < length (now image) ⌝ }
+    requires { ⌜ from + textCount (now image) at ≤ length (now image) ⌝ }
+    ensures { λ r. ⌜ r ≡ endAt (now (image .entry)) at from ⌝ }
 {
-    let first = DIRECTORY + entries_of(image);
-    let directory = &image[DIRECTORY..first];
-    let mut at = first + decks_of(image);
+    let end = from + (image[at] / TEXT % FIELD) as usize;
+    if form::is_text(&image[from..end]) {
+        return Found::At(end);
+    }
+    Found::Nothing
+}
+
+// Rows 5 and 6 from a place on, card by card.
+fn cards_from(image: &[u64], directory: &[u64], from: usize) -> Checked
+    requires { ⌜ Sized (now image) ⌝ }
+    requires { ⌜ from ≤ length (now image) ⌝ }
+    ensures { λ r. ⌜ r ≡ answerFrom (now (directory .entry)) (now (image .entry)) 16383 from ⌝ }
+{
+    let mut at = from;
     let mut n = 0;
     while at < image.len() {
         if n == MOST_CARDS {
@@ -220,15 +231,23 @@ pub(crate) fn cards_fault(image: &[u64]) -> Checked
         }
         match text_of(image, directory, at) {
             Found::Nothing => return Checked::Refused(Fault::Form, at),
-            Found::At(text) => {
-                let next = text + (image[at] / TEXT % FIELD) as usize;
-                if !text::is_text(&image[text..next]) {
-                    return Checked::Refused(Fault::Text, at);
-                }
-                at = next;
-            }
+            Found::At(text) => match end_of(image, at, text) {
+                Found::Nothing => return Checked::Refused(Fault::Text, at),
+                Found::At(end) => at = end,
+            },
         }
         n += 1;
     }
     Checked::Sound
+}
+
+// Rows 5 and 6 of an image whose tables are right.
+pub(crate) fn cards_fault(image: &[u64]) -> Checked
+    requires { ⌜ Sized (now image) ⌝ }
+    requires { ⌜ Tabled (now image) ⌝ }
+    ensures { λ r. ⌜ r ≡ cardsAnswer (cardsRead (now (image .entry))) ⌝ }
+{
+    let first = DIRECTORY + tables::entries_of(image);
+    let from = first + tables::decks_of(image);
+    cards_from(image, &image[DIRECTORY..first], from)
 }

@@ -1,38 +1,15 @@
 // Rows 1 to 6 in their order.
 ghost use mathlib.Core.Path.{_≡_};
-ghost use Rattle.rows.specs.Found.{Sized, afterTables, firstRows};
+ghost use Rattle.rows.specs.Found.{firstRows};
 use crate::cards::cards_fault;
-use crate::tables::header_fault;
-use crate::tables::name_fault;
-use crate::tables::size_fault;
-use crate::tables::tables_fault;
 use library::Checked;
-use library::Fault;
-use library::Found;
-
-// Rows 3 to 6.
-fn table_rows(image: &[u64]) -> Checked
-    requires { ⌜ Sized (now image) ⌝ }
-    ensures { λ r. ⌜ r ≡ afterTables (now (image .entry)) ⌝ }
-{
-    match tables_fault(image) {
-        Found::At(p) => Checked::Refused(Fault::Tables, p),
-        Found::Nothing => match name_fault(image) {
-            Found::At(p) => Checked::Refused(Fault::Name, p),
-            Found::Nothing => cards_fault(image),
-        },
-    }
-}
 
 // What rows 1 to 6 answer of an image, whatever its words.
 pub fn first_rows(image: &[u64]) -> Checked
     ensures { λ r. ⌜ r ≡ firstRows (now (image .entry)) ⌝ }
 {
-    match size_fault(image) {
-        Found::At(p) => Checked::Refused(Fault::Size, p),
-        Found::Nothing => match header_fault(image) {
-            Found::At(p) => Checked::Refused(Fault::Header, p),
-            Found::Nothing => table_rows(image),
-        },
+    match tables::table_rows(image) {
+        Checked::Refused(fault, p) => Checked::Refused(fault, p),
+        Checked::Sound => cards_fault(image),
     }
 }

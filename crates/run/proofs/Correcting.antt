@@ -21,7 +21,7 @@ use Rattle.corrections.specs.Safe.{Safe}
 use Rattle.corrections.specs.Flat.{indexBy, ahead, Stood, flat, FoundAs, HasPlace, flatPlace, deckNumbers}
 use Rattle.run.specs.GapWords.{Ordered}
 use Rattle.run.specs.CardSeek.{indexOf}
-use Rattle.run.specs.SettledBits.{flagged}
+use Rattle.settling.specs.SettledBits.{flagged}
 use Rattle.run.specs.Work.{Work, Stands, Located, Locates, OpensAfter, OpensAhead}
 use Rattle.run.specs.Desk.{Sane, SaneAfter, TextGoes, Tables, Held, Answered}
 use Rattle.run.specs.Corrected.{titled, SoughtAt, SoughtAs, SeeksCard, InsertSteps, BeforeSteps}

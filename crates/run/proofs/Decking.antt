@@ -24,7 +24,7 @@ use Rattle.corrections.specs.Safe.{Safe}
 use Rattle.corrections.specs.Flat.{ahead, HasPlace, flatPlace, deckNumbers}
 use Rattle.run.specs.GapWords.{Ordered}
 use Rattle.run.specs.CardHeads.{cardOf}
-use Rattle.run.specs.SettledBits.{flagged}
+use Rattle.settling.specs.SettledBits.{flagged}
 use Rattle.run.specs.Work.{Work, Stands, OpensAhead, PutCard}
 use Rattle.run.specs.Desk.{fitted, Sane, TextGoes, Tables, Held, Answered}
 use Rattle.run.specs.Obeyed.{PutsLine, asksDeck, DeckSteps}

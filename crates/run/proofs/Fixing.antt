@@ -1,45 +1,16 @@
--- A byte's yank bit is set from the flags alone, and what it says of activity is read off its bits.
-use Prim.Native.Nat.{ℕ, _+_, _*_, _/_, _%_, _^_, _≤_, _<_}
+-- A byte of a card, settled, is that byte under the new flags, and says what it says in the model; a word of three is its bytes.
+use Prim.Native.Nat.{ℕ, _+_, _*_, _/_, _%_, _^_, _<_}
 use native.Mathlib.Omega.{arith}
 use mathlib.Core.Path.{_≡_, ap, _∙_}
 use mathlib.Core.Bool.{Bool, true, false}
-use mathlib.Core.List.{List}
-use lib.ListN.{length, getD, List·getD-eq-default}
-use borrow.Author.Tests.{eq-eqb, ne-eqb, le-leb, lt-leb}
 use Rattle.words.specs.Base.{if_then_else_}
 use Rattle.library.specs.Library.{Byte}
 use Rattle.library.specs.Image.{bit, byteBits}
+use Rattle.settling.specs.SettledBits.{fixByte, fixWord, sayByte, sayWord}
+use Rattle.settling.proofs.Fixing.{say-off, say-on}
 use Rattle.run.specs.CardHeads.{FitsByte}
-use Rattle.run.specs.SettledBits.{flagged, fixByte, fixWord, sayByte, sayWord}
 use Rattle.run.proofs.Heads.{bits-number}
 
--- by the flags
-module _ (f : List ℕ) (b : ℕ) where
-  pub fix-yes : (getD f (b % 65536) 0 ≡ 0 → ⊥) → fixByte (flagged f) b ≡ 131072 + b % 131072
-  unfolding fixByte flagged
-  fix-yes d = rw (ne-eqb (getD f (b % 65536) 0) 0 d)
-
-  pub fix-no : getD f (b % 65536) 0 ≡ 0 → fixByte (flagged f) b ≡ b % 131072
-  unfolding fixByte flagged
-  fix-no e = rw (eq-eqb (getD f (b % 65536) 0) 0 e) (omega arith)
-
-  pub fix-out : length f ≤ b % 65536 → fixByte (flagged f) b ≡ b % 131072
-  fix-out h = fix-no (List·getD-eq-default f 0 h)
-
-module _ (so b : ℕ) where
-  pub say-none : b ≡ 0 → sayByte so b ≡ so
-  unfolding sayByte
-  say-none e = rw (eq-eqb b 0 e)
-
-  pub say-off : (b ≡ 0 → ⊥) → 131072 ≤ b → sayByte so b ≡ so
-  unfolding sayByte
-  say-off d h = rw (ne-eqb b 0 d, le-leb 131072 b h)
-
-  pub say-on : (b ≡ 0 → ⊥) → b < 131072 → sayByte so b ≡ b / 65536
-  unfolding sayByte
-  say-on d h = rw (ne-eqb b 0 d, lt-leb 131072 b h)
-
--- of a byte of the model
 module _ (yk new : ℕ → Bool) (x : Byte) (f : FitsByte x) where
   pub fix-is : fixByte new (byteBits yk x) ≡ byteBits new x
   unfolding fixByte

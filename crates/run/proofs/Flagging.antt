@@ -8,7 +8,7 @@ use lib.Dec.{eqb}
 use lib.ListN.{length, take, drop, set, getD, List·getD-eq-default, drop-of-length-le}
 use lib.Seq.{drop-cons, getD-take, getD-set-same, getD-set-other}
 use Rattle.words.specs.Base.{member}
-use Rattle.run.specs.SettledBits.{flagged}
+use Rattle.settling.specs.SettledBits.{flagged}
 use Rattle.run.specs.Loaded.{NoFlags}
 use Rattle.corrections.proofs.FlatFind.{compared, eqb-yes, eqb-no}
 

@@ -6,8 +6,8 @@ use mathlib.Core.Path.{_≡_, refl, sym, ap, ap₂, _∙_}
 use mathlib.Core.Bool.{Bool, true, false, _&&_, _||_}
 use mathlib.Core.List.{List, [], _∷_, _++_, map, append-assoc}
 use lib.Dec.{T, eqb}
-use lib.ListN.{length, take, drop, getD, length-map}
-use lib.Seq.{paste, take-paste, drop-drop, take-append-seam, drop-append-seam, take-all}
+use lib.ListN.{length, take, drop, getD, length-map, length-drop}
+use lib.Seq.{drop-drop, take-append-seam, drop-append-seam, take-all, length-take-le}
 use Rattle.words.specs.Base.{if_then_else_, member, all}
 use Rattle.library.specs.Each.{Each}
 use Rattle.library.specs.Library.{Byte, Card, Deck, Library, deckCards, joined, stream, nameAt, entryOf, deckNames}
@@ -19,10 +19,12 @@ use Rattle.library.proofs.CheckEncode.{check-encode}
 use Rattle.library.proofs.CheckSound.{check-sound}
 use Rattle.library.proofs.Each.{and-parts}
 use Rattle.library.proofs.EntryNames.{entry-name}
+use Rattle.store.specs.Stored.{over}
+use Rattle.store.proofs.Storing.{over-all}
 use Rattle.run.specs.CardHeads.{Fits}
 use Rattle.run.specs.CardSeek.{indexOf}
 use Rattle.corrections.specs.Flat.{indexBy, deckNumbers, isDeckCard}
-use Rattle.run.specs.SettledBits.{flagged}
+use Rattle.settling.specs.SettledBits.{flagged}
 use Rattle.run.specs.Loaded.{titledCard, Readable}
 use Rattle.corrections.proofs.FlatFind.{eqb-yes, eqb-no}
 use Rattle.corrections.proofs.FlatStream.{encode-flat}
@@ -102,11 +104,17 @@ module _ (old : List ℕ) (l : Library) (ok : check old ≡ good l) where
   cards-are = behind-names
 
 -- COPIED to an array's start
-pub taken : (d s : List ℕ) (i : ℕ) → i ≤ length s → take i (paste d 0 s i) ≡ take i s
-taken d s i le = ap (λ (j : ℕ). take j (paste d 0 s i)) (sym (zero-add i)) ∙ take-paste d 0 s i (omega arith) le
+pub copied-part : (xs ys : List ℕ) (a k : ℕ) → a + k ≤ length xs → k ≤ length ys → over (take (a + k - a) (drop a xs)) ys ≡ take k (drop a xs) ++ drop k ys
+copied-part xs ys a k inside room =
+    let same : a + k - a ≡ k = omega arith in
+    let long : length (take k (drop a xs)) ≡ k = length-take-le k (drop a xs) (omega (arith, length-drop a xs)) in
+    ap (λ (i : ℕ). over (take i (drop a xs)) ys) same ∙ over-all (take k (drop a xs)) ys (omega arith)
+    ∙ ap (λ (i : ℕ). take k (drop a xs) ++ drop i ys) long
 
-pub begun : (d s : List ℕ) (i : ℕ) → length s ≡ i → paste d 0 s i ≡ s ++ drop i d
-begun d s i e = ap₂ (λ (x : List ℕ) (j : ℕ). x ++ drop j d) (take-all i s (omega arith)) (zero-add i)
+pub copied-rest : (xs ys : List ℕ) (a : ℕ) → length xs ≤ length ys → over (take (length xs - a) (drop a xs)) ys ≡ drop a xs ++ drop (length xs - a) ys
+copied-rest xs ys a room =
+    ap (λ (v : List ℕ). over v ys) (take-all (length xs - a) (drop a xs) (omega (arith, length-drop a xs)))
+    ∙ over-all (drop a xs) ys (omega (arith, length-drop a xs)) ∙ ap (λ (i : ℕ). drop a xs ++ drop i ys) (length-drop a xs)
 
 -- COUNTED: no card is owned by 0
 pub none-of-zero : (cs : List Card) → Each Fits cs → indexOf 0 0 cs ≡ length cs

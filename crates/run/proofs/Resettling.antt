@@ -21,7 +21,7 @@ use Rattle.library.proofs.Flags.{yankList, flags, yanked-rule}
 use Rattle.yanked.specs.Flags.{settledFlags}
 use Rattle.yanked.proofs.Yanking.{settled-yanked}
 use Rattle.corrections.specs.Step.{State}
-use Rattle.run.specs.SettledBits.{flagged}
+use Rattle.settling.specs.SettledBits.{flagged}
 use Rattle.run.specs.Work.{Work, Resettles}
 use Rattle.run.specs.Desk.{Sane, Held, HeldUnder}
 use Rattle.run.specs.Resettled.{Resettled}

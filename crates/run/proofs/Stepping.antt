@@ -7,6 +7,7 @@ use mathlib.Core.List.{List, [], _∷_, _++_, append-assoc}
 use lib.Dec.{T, leb, leb→le, le→leb}
 use lib.ListN.{length, take, drop, length-append, length-drop, length-take}
 use lib.Seq.{take-append-seam, drop-append-seam, take-at, drop-at}
+use borrow.Author.Tests.{le-leb}
 use Rattle.words.specs.Base.{if_then_else_, all, allOf}
 use Rattle.words.specs.Text.{trim}
 use Rattle.words.proofs.Tests.{T-true}
@@ -18,14 +19,15 @@ use Rattle.library.specs.Library.{Card, Deck, Library, stream}
 use Rattle.library.specs.Yanks.{yanked}
 use Rattle.library.specs.Image.{cardsWords, shortHistory, withinLimits}
 use Rattle.library.specs.Sound.{Sound}
-use Rattle.library.proofs.Each.{allOf-each}
+use Rattle.library.proofs.Each.{allOf-each, each-allOf}
 use Rattle.corrections.specs.Step.{TextPlace, nowhere, inYanks, inDeck, State, Step, went, refused, limited, newCard, putIn, changeAt, afterText, putText, obey, step, unitNumber, withDecks}
 use Rattle.corrections.specs.Safe.{Begun, Open, Safe}
 use Rattle.corrections.specs.Flat.{HasPlace, flatPlace, deckNumbers}
+use Rattle.corrections.specs.Counts.{countTests, withinCounts}
 use Rattle.run.specs.GapWords.{Parted, Ordered}
 use Rattle.run.specs.CardHeads.{Fits, cardOf}
 use Rattle.run.specs.Work.{Work, PutCard}
-use Rattle.run.specs.Desk.{fitTests, fitted, Sane, SaneAfter, TextGoes, Tables, Held, Answered}
+use Rattle.run.specs.Desk.{wordCount, fitTests, fitted, Sane, SaneAfter, TextGoes, Tables, Held, Answered}
 use Rattle.run.specs.declared.gap.Gap.{Gap}
 use Rattle.run.specs.declared.desk.Desk.{Desk}
 use Rattle.run.specs.declared.desk.TextAt.{TextAt}
@@ -50,35 +52,40 @@ pub record Fitting (d : Desk) : Type 0 where
   pub total : 3 + d .entries + d .decks + d .gap .lo + (65536 - d .gap .hi) ≤ 65536
 
 fits-of : (d : Desk) → T (allOf (fitTests d)) → Fitting d
+unfolding withinCounts
 fits-of d t =
-    let h : Each T (fitTests d) = allOf-each (fitTests d) t in record {
+    let h : Each T (fitTests d) = allOf-each (fitTests d) t in
+    let k : Each T (countTests (d .entries) (d .decks + 1) (d .cards) (wordCount d)) = allOf-each (countTests (d .entries) (d .decks + 1) (d .cards) (wordCount d)) (h .1 .0) in record {
       ordered = leb→le (d .gap .lo) (d .gap .hi) (h .0);
-      entries = leb→le (d .entries) 1023 (h .1 .0);
-      decks = leb→le (d .decks) 254 (h .1 .1 .0);
-      cards = leb→le (d .cards) 16383 (h .1 .1 .1 .0);
-      total = leb→le (3 + d .entries + d .decks + d .gap .lo + (65536 - d .gap .hi)) 65536 (h .1 .1 .1 .1 .0);
+      entries = leb→le (d .entries) 1023 (k .0);
+      decks = omega (arith, leb→le (d .decks + 1) 255 (k .1 .0));
+      cards = leb→le (d .cards) 16383 (k .1 .1 .0);
+      total = leb→le (wordCount d) 65536 (k .1 .1 .1 .0);
     }
 
 of-fits : (d : Desk) → Fitting d → T (allOf (fitTests d))
-of-fits d f = Rattle.library.proofs.Each.each-allOf (fitTests d) (
-  le→leb (d .gap .lo) (d .gap .hi) (f .ordered),
-  (
-    le→leb (d .entries) 1023 (f .entries),
-    (
-      le→leb (d .decks) 254 (f .decks),
+unfolding withinCounts
+of-fits d f =
+    let k : T (allOf (countTests (d .entries) (d .decks + 1) (d .cards) (wordCount d))) = each-allOf (countTests (d .entries) (d .decks + 1) (d .cards) (wordCount d)) (
+      le→leb (d .entries) 1023 (f .entries),
       (
-        le→leb (d .cards) 16383 (f .cards),
-        (le→leb (3 + d .entries + d .decks + d .gap .lo + (65536 - d .gap .hi)) 65536 (f .total), tt),
+        le→leb (d .decks + 1) 255 (omega (arith, f .decks)),
+        (le→leb (d .cards) 16383 (f .cards), (le→leb (wordCount d) 65536 (f .total), tt)),
       ),
-    ),
-  ),
-)
+    ) in
+    each-allOf (fitTests d) (le→leb (d .gap .lo) (d .gap .hi) (f .ordered), (k, tt))
 
 pub fitted-yes : (d : Desk) → Fitting d → fitted d ≡ SteppedOn d
 fitted-yes d f = ap (λ (b : Bool). if b then SteppedOn d else SteppedOff Limit) (T-true (allOf (fitTests d)) (of-fits d f))
 
 pub fitted-no : (d : Desk) → (Fitting d → ⊥) → fitted d ≡ SteppedOff Limit
 fitted-no d f = ap (λ (b : Bool). if b then SteppedOn d else SteppedOff Limit) (bool-iff (allOf (fitTests d)) false (λ t. absurd (f (fits-of d t))) (λ t. absurd t))
+
+-- where the words fit the array, the counts say
+pub fitted-counts : (d : Desk) (b : Bool) → d .gap .lo ≤ d .gap .hi → withinCounts (d .entries) (d .decks + 1) (d .cards) (wordCount d) ≡ b
+    → fitted d ≡ (if b then SteppedOn d else SteppedOff Limit)
+fitted-counts d true le e = rw (le-leb (d .gap .lo) (d .gap .hi) le, e)
+fitted-counts d false le e = rw (le-leb (d .gap .lo) (d .gap .hi) le, e)
 
 pub fitted-sane : (w : List ℕ) (d : Desk) → d .gap .hi ≤ length w → length w ≡ 65536 → d .next ≤ d .cards + 1 → d .yanks ≤ d .cards → d .low ≤ d .cards → SaneAfter w (fitted d)
 fitted-sane w d hi room next yanks low = go (allOf (fitTests d)) (fits-of d)

@@ -4,8 +4,8 @@ use native.Mathlib.Omega.{arith}
 use mathlib.Core.Path.{_≡_, refl, sym, ap, ap₂, _∙_, subst}
 use mathlib.Core.List.{List, _∷_}
 use lib.ListN.{length, drop}
-use Rattle.lines.specs.Directive.{lineOf, lines}
-use Rattle.lines.proofs.Streams.{lines-none, lines-more, after-line}
+use Rattle.lines.specs.Directive.{lineOf, lineAfter, lines}
+use Rattle.lines.proofs.Streams.{lines-none, lines-more, line-within, after-line, line-after-is}
 use Rattle.corrections.specs.Step.{State, Step, went, refused, step}
 use Rattle.corrections.specs.Run.{Steps, ended, stopped, onward, steps}
 use Rattle.run.specs.Desk.{Sane}
@@ -38,6 +38,15 @@ Goes a d bytes b e n at = (s : State) → HeldIn a d s → Reached bytes b e n a
 pub goes-start : (a : Arrays) (d : Desk) (bytes : List ℕ) → Goes a d bytes a d 1 0
 goes-start a d bytes s h = record { now = s; held = h; same = refl }
 
+-- the place after a line of a stream, and how far it is
+pub next-place : (bytes : List ℕ) (at : ℕ) → at < length bytes → length bytes ≤ 262144 → (line : List ℕ) → line ≡ lineOf (drop at bytes) → (next : ℕ) → next ≡ lineAfter at (length line)
+    → (next ≡ at + length line + 1) × (next ≤ length bytes + 1)
+next-place bytes at lt short line is next after =
+    let q : next ≡ at + length line + 1 = after ∙ line-after-is at (length line) (omega arith) in
+    let k : length line ≡ length (lineOf (drop at bytes)) = ap length is in
+    let e : at + length (lineOf (drop at bytes)) ≤ length bytes = line-within bytes at (omega arith) in
+    (q, omega arith)
+
 -- what a step that was answered was
 module _ (b : Arrays) (t : Step) where
   on-went : (e : Desk) → AnsweredIn b (SteppedOn e) t → (u : State) × ((t ≡ went u) × HeldIn b e u)
@@ -66,8 +75,8 @@ module _ (a : Arrays) (d : Desk) (bytes : List ℕ) (b : Arrays) (e : Desk) (n a
     first t =
         ap (steps t n) (lines-more bytes at lt ∙ ap₂ (λ (x : List ℕ) (y : List ℕ). x ∷ lines y) (sym is) (after-line bytes at ∙ ap (λ (x : List ℕ). drop (at + length x + 1) bytes) (sym is)))
 
-    pub goes-more : (c : Arrays) (f : Desk) → ObeysLine b e line c (SteppedOn f) → Goes a d bytes c f (n + 1) (at + length line + 1)
-    goes-more c f o s h =
+    on-more : (c : Arrays) (f : Desk) → ObeysLine b e line c (SteppedOn f) → Goes a d bytes c f (n + 1) (at + length line + 1)
+    on-more c f o s h =
         let r : Reached bytes b e n at s = g s h in
         let u : _ = on-went c (step (r .now) line) f (o (r .now) (r .held)) in
         let rest : State → Steps = λ x. steps x (suc n) (lines (drop (at + length line + 1) bytes)) in
@@ -76,6 +85,9 @@ module _ (a : Arrays) (d : Desk) (bytes : List ℕ) (b : Arrays) (e : Desk) (n a
           held = u .1 .1;
           same = r .same ∙ first (r .now) ∙ ap (λ (x : Step). onward x rest n) (u .1 .0) ∙ ap (λ (k : ℕ). steps (u .0) k (lines (drop (at + length line + 1) bytes))) (omega arith);
         }
+
+    pub goes-more : (c : Arrays) (f : Desk) (next : ℕ) → next ≡ at + length line + 1 → ObeysLine b e line c (SteppedOn f) → Goes a d bytes c f (n + 1) next
+    goes-more c f next q o = subst (Goes a d bytes c f (n + 1)) (sym q) (on-more c f o)
 
     pub goes-stop : (c : Arrays) (y : Why) → ObeysLine b e line c (SteppedOff y) → ObeysStream a d bytes c (EndedOff y n)
     goes-stop c y o s h =

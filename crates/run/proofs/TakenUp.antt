@@ -5,7 +5,7 @@ use mathlib.Core.Path.{_≡_, refl, sym, ap, ap₂, _∙_}
 use mathlib.Core.Bool.{Bool, false}
 use mathlib.Core.List.{List, [], _++_, map, append-nil}
 use lib.ListN.{length, take, drop, getD, length-append, length-drop, drop-of-length-le}
-use lib.Seq.{paste, take-at, take-append-seam}
+use lib.Seq.{take-at, take-append-seam, length-take-le}
 use Rattle.words.specs.Base.{member}
 use Rattle.library.specs.Each.{Each}
 use Rattle.library.specs.Library.{Card, Library, deckCards, joined, stream, entryOf, deckNames}
@@ -17,7 +17,7 @@ use Rattle.corrections.specs.Step.{start}
 use Rattle.run.specs.CardHeads.{Fits}
 use Rattle.run.specs.CardSeek.{CardRun, Finds}
 use Rattle.corrections.specs.Flat.{indexBy, deckNumbers}
-use Rattle.run.specs.SettledBits.{flagged}
+use Rattle.settling.specs.SettledBits.{flagged}
 use Rattle.run.specs.Desk.{Sane, Tables, HeldUnder}
 use Rattle.run.specs.Loaded.{titledCard, FindsTitle, FlagsDecks, Readable, Loads}
 use Rattle.run.specs.declared.desk.Desk.{Desk}
@@ -25,7 +25,7 @@ use Rattle.run.specs.declared.desk.TextAt.the-variants.{Nowhere as TextN
 use Rattle.run.specs.declared.seek.Place.{Place}
 use Rattle.corrections.proofs.FlatLimits.{Small}
 use Rattle.run.proofs.Handing.{stream-fits}
-use Rattle.run.proofs.Loading.{loaded-sound, loaded-small, entries-are, decks-are, image-long, directory-is, names-are, cards-are, taken, begun, none-of-zero, listed-numbers, titles-end}
+use Rattle.run.proofs.Loading.{loaded-sound, loaded-small, entries-are, decks-are, image-long, directory-is, names-are, cards-are, none-of-zero, listed-numbers, titles-end}
 
 module _ (old : List ℕ) where
   abbrev N : ℕ
@@ -53,7 +53,7 @@ module _ (old : List ℕ) where
       }
 
   module _ (w dir names decks w₀ dir₀ names₀ : List ℕ) (t c : Place)
-      (ew : w ≡ paste w₀ 0 (drop (2 + N + K) old) low) (ed : dir ≡ paste dir₀ 0 (drop 2 old) N) (en : names ≡ paste names₀ 0 (drop (2 + N) old) K) (room : length w ≡ 65536)
+      (ew : w ≡ drop (2 + N + K) old ++ drop low w₀) (ed : dir ≡ take N (drop 2 old) ++ drop N dir₀) (en : names ≡ take K (drop (2 + N) old) ++ drop K names₀) (room : length w ≡ 65536)
       (fl : FlagsDecks dir N names K decks) (ft : FindsTitle w low decks t) (fc : Finds w 0 low 0 0 c) where
     module _ (l : Library) (ok : check old ≡ good l) where
       abbrev yk : ℕ → Bool
@@ -73,20 +73,21 @@ module _ (old : List ℕ) where
 
       w-is : w ≡ cards ++ drop low w₀
       w-is =
-          ew ∙ ap (λ (x : List ℕ). paste w₀ 0 x low) (ap₂ (λ (i j : ℕ). drop (2 + i + j) old) (entries-are old l ok) (decks-are old l ok) ∙ cards-are old l ok)
-          ∙ begun w₀ cards low (sym low-is)
+          ew ∙ ap (λ (x : List ℕ). x ++ drop low w₀) (ap₂ (λ (i j : ℕ). drop (2 + i + j) old) (entries-are old l ok) (decks-are old l ok) ∙ cards-are old l ok)
 
       run-of : CardRun w 0 low yk (stream l) (drop low w₀)
       run-of = record { words = w-is; end = omega (arith, low-is); fit = fits }
 
       dir-is : take N dir ≡ l .directory
       dir-is =
-          ap (take N) ed ∙ taken dir₀ (drop 2 old) N (omega (arith, length-drop 2 old, image-long old l ok, entries-are old l ok))
+          ap (take N) ed
+          ∙ take-at (take N (drop 2 old)) (drop N dir₀) N (length-take-le N (drop 2 old) (omega (arith, length-drop 2 old, image-long old l ok, entries-are old l ok)))
           ∙ ap (λ (i : ℕ). take i (drop 2 old)) (entries-are old l ok) ∙ directory-is old l ok
 
       names-is : take K names ≡ deckNames l
       names-is =
-          ap (take K) en ∙ taken names₀ (drop (2 + N) old) K (omega (arith, length-drop (2 + N) old, image-long old l ok, entries-are old l ok, decks-are old l ok))
+          ap (take K) en
+          ∙ take-at (take K (drop (2 + N) old)) (drop K names₀) K (length-take-le K (drop (2 + N) old) (omega (arith, length-drop (2 + N) old, image-long old l ok, entries-are old l ok, decks-are old l ok)))
           ∙ ap₂ (λ (i j : ℕ). take j (drop (2 + i) old)) (entries-are old l ok) (decks-are old l ok) ∙ names-are old l ok
 
       marked : (m : ℕ) → flagged decks m ≡ member m (deckNumbers l)

@@ -1,14 +1,14 @@
 -- What the operations mean for the library in work: marked cards fit, the limit of 64 bytes is a test, and settled cards are those under the new flags.
 use Prim.Native.Nat.{ℕ, _+_, _-_, _≤_, _<_}
 use native.Mathlib.Omega.{arith}
-use native.Mathlib.Nat.{zero-add}
 use mathlib.Core.Path.{_≡_, refl, sym, ap, _∙_}
 use mathlib.Core.Bool.{Bool, true, false, _&&_, not, Bool·beq}
 use mathlib.Core.List.{List, [], _∷_, _++_, append-nil}
 use lib.Dec.{eqb}
 use borrow.Author.Tests.{le-leb, leb-true}
-use lib.ListN.{length, take, drop, length-append, take-append-drop}
-use lib.Seq.{take-at, drop-at, length-take-le, drop-drop, take-append-le, take-take}
+use lib.ListN.{length, take, drop, length-append, length-drop, drop-of-length-le}
+use lib.Seq.{take-all, take-at, drop-at, length-take-le, drop-drop, take-append-le, take-take}
+use borrow.Rule.Slice.PartMut.{midOf, postOf, putMid}
 use Rattle.words.specs.Base.{if_then_else_, all}
 use Rattle.library.specs.Each.{Each}
 use Rattle.library.specs.Library.{Byte, Card, history}
@@ -17,12 +17,13 @@ use Rattle.library.specs.Image.{cardWords, cardsWords, shortHistory}
 use Rattle.run.specs.CardHeads.{FitsByte, Fits}
 use Rattle.run.specs.GapWords.{Ordered}
 use Rattle.run.specs.ByteMarks.{markOne, markAll, Short, MarksRange}
-use Rattle.run.specs.SettledBits.{Settles}
+use Rattle.settling.specs.SettledBits.{settledWords}
 use Rattle.run.specs.Work.{Work, Resettles}
 use Rattle.run.specs.declared.gap.Gap.{Gap}
 use Rattle.run.proofs.Ranging.{given}
 use Rattle.run.proofs.Walking.{cards-append, card-len}
-use Rattle.run.proofs.Locating.{each-append, lo-is, hi-is, whole}
+use Rattle.run.proofs.CardSettling.{settled-cards}
+use Rattle.run.proofs.Locating.{each-append, lo-is}
 
 -- A MARKED CARD FITS where its history is short enough
 each-snoc : (x : Byte) → FitsByte x → (bs : List Byte) → Each FitsByte bs → Each FitsByte (bs ++ (x ∷ []))
@@ -83,30 +84,36 @@ cards-len p q (c ∷ cs) =
     length-append (cardWords p c) (cardsWords p cs) ∙ (λ i. (card-len p c ∙ sym (card-len q c)) i + cards-len p q cs i)
     ∙ sym (length-append (cardWords q c) (cardsWords q cs))
 
-pub resettled : (w : List ℕ) (g : Gap) (order : Ordered w g) (new : ℕ → Bool) (v : List ℕ) → Settles w 0 (g .lo) new v → length v ≡ length w
-    → (u : List ℕ) → Settles v (g .hi) (length w) new u → Resettles w g new u
-resettled w g order new v s1 len u s2 yk cs1 cs2 k =
-    let l : length (cardsWords yk cs1) ≡ g .lo = lo-is w g order yk cs1 cs2 k in
-    let l2 : length (cardsWords new cs1) ≡ g .lo = cards-len new yk cs1 ∙ l in
-    let v-is : v ≡ cardsWords new cs1 ++ drop (g .lo) w =
-    s1 yk cs1 [] (drop (g .lo) w) (whole w g order yk cs1 cs2 k) refl (zero-add (length (cardsWords yk cs1)) ∙ l) (k .fit1) in
-    let tv : take (g .lo) v ≡ cardsWords new cs1 =
-    ap (λ (t : List ℕ). take (g .lo) t) v-is ∙ take-at (cardsWords new cs1) (drop (g .lo) w) (g .lo) l2 in
-    let dv : drop (g .lo) v ≡ drop (g .lo) w = ap (λ (t : List ℕ). drop (g .lo) t) v-is ∙ drop-at (cardsWords new cs1) (drop (g .lo) w) (g .lo) l2 in
-    let apart : g .hi ≡ g .lo + (g .hi - g .lo) = omega arith in
-    let far : (t : List ℕ) → drop (g .hi) t ≡ drop (g .hi - g .lo) (drop (g .lo) t) =
-    λ t. ap (λ (n : ℕ). drop n t) apart ∙ sym (drop-drop (g .hi - g .lo) (g .lo) t) in
-    let dhi : drop (g .hi) v ≡ cardsWords yk cs2 = far v ∙ ap (λ (t : List ℕ). drop (g .hi - g .lo) t) dv ∙ sym (far w) ∙ k .parted .over in
-    let lt : length (take (g .hi) v) ≡ g .hi = length-take-le (g .hi) v (omega arith) in
-    let whole-v : v ≡ take (g .hi) v ++ (cardsWords yk cs2 ++ []) =
-    sym (take-append-drop (g .hi) v) ∙ ap (λ (t : List ℕ). take (g .hi) v ++ t) (dhi ∙ sym (append-nil (cardsWords yk cs2))) in
-    let u-is : u ≡ take (g .hi) v ++ (cardsWords new cs2 ++ []) = s2 yk cs2 (take (g .hi) v) [] whole-v lt (hi-is w g order yk cs1 cs2 k) (k .fit2) in
+-- below the gap, x, then from its end on, y
+pub resettled : (w : List ℕ) (g : Gap) → Ordered w g → (new : ℕ → Bool) → new 0 ≡ false → (x : List ℕ) → x ≡ settledWords new (take (g .lo) w)
+    → (y : List ℕ) → y ≡ settledWords new (midOf (g .hi) (length (x ++ drop (g .lo) w) - g .hi) (x ++ drop (g .lo) w))
+    → Resettles w g new (putMid (g .hi) (length (x ++ drop (g .lo) w) - g .hi) (x ++ drop (g .lo) w) y)
+resettled w g order new zero-out x x-is y y-is yk cs1 cs2 k =
+    let v : List ℕ = x ++ drop (g .lo) w in
+    let l : length (cardsWords new cs1) ≡ g .lo = cards-len new yk cs1 ∙ lo-is w g order yk cs1 cs2 k in
+    let low : v ≡ cardsWords new cs1 ++ drop (g .lo) w =
+    ap (λ (t : List ℕ). t ++ drop (g .lo) w) (x-is ∙ ap (settledWords new) (k .parted .under) ∙ settled-cards new yk zero-out cs1 (k .fit1)) in
+    let n1 : length v ≡ length (cardsWords new cs1) + length (drop (g .lo) w) = ap length low ∙ length-append (cardsWords new cs1) (drop (g .lo) w) in
+    let n2 : length (drop (g .lo) w) ≡ length w - g .lo = length-drop (g .lo) w in
+    let long : length (take (g .hi) v) ≡ g .hi = length-take-le (g .hi) v (omega arith) in
+    let apart : g .lo + (g .hi - g .lo) ≡ g .hi = omega arith in
+    let far : (t : List ℕ) → drop (g .hi - g .lo) (drop (g .lo) t) ≡ drop (g .hi) t =
+    λ t. drop-drop (g .hi - g .lo) (g .lo) t ∙ ap (λ (n : ℕ). drop n t) apart in
+    let same : drop (g .lo) v ≡ drop (g .lo) w = ap (λ (t : List ℕ). drop (g .lo) t) low ∙ drop-at (cardsWords new cs1) (drop (g .lo) w) (g .lo) l in
+    let above : drop (g .hi) v ≡ cardsWords yk cs2 =
+    sym (far v) ∙ ap (λ (t : List ℕ). drop (g .hi - g .lo) t) same ∙ far w ∙ k .parted .over in
+    let n3 : length (drop (g .hi) v) ≡ length v - g .hi = length-drop (g .hi) v in
+    let n4 : length (drop (g .hi) v) ≤ length v - g .hi = omega arith in
+    let all : midOf (g .hi) (length v - g .hi) v ≡ drop (g .hi) v = take-all (length v - g .hi) (drop (g .hi) v) n4 in
+    let none : postOf (g .hi) (length v - g .hi) v ≡ [] = drop-of-length-le (drop (g .hi) v) n4 in
+    let high : y ++ postOf (g .hi) (length v - g .hi) v ≡ cardsWords new cs2 =
+    (λ i. (y-is ∙ ap (settledWords new) (all ∙ above) ∙ settled-cards new yk zero-out cs2 (k .fit2)) i ++ none i) ∙ append-nil (cardsWords new cs2) in
     record {
       parted = record {
-        under = ap (λ (t : List ℕ). take (g .lo) t) u-is ∙ take-append-le (g .lo) (take (g .hi) v) (cardsWords new cs2 ++ []) (omega arith)
-            ∙ take-take (g .lo) (g .hi) v (order .0) ∙ tv;
-        over = ap (λ (t : List ℕ). drop (g .hi) t) u-is ∙ drop-at (take (g .hi) v) (cardsWords new cs2 ++ []) (g .hi) lt
-            ∙ append-nil (cardsWords new cs2);
+        under = take-append-le (g .lo) (take (g .hi) v) (y ++ postOf (g .hi) (length v - g .hi) v) (omega arith)
+            ∙ take-take (g .lo) (g .hi) v (order .0) ∙ ap (λ (t : List ℕ). take (g .lo) t) low
+            ∙ take-at (cardsWords new cs1) (drop (g .lo) w) (g .lo) l;
+        over = drop-at (take (g .hi) v) (y ++ postOf (g .hi) (length v - g .hi) v) (g .hi) long ∙ high;
       };
       fit1 = k .fit1;
       fit2 = k .fit2;

@@ -16,7 +16,7 @@ use Rattle.library.specs.Library.{Card, Library, parts, stream, entryOf}
 use Rattle.library.specs.Yanks.{yanked}
 use Rattle.corrections.specs.Step.{State, Spot, isNamed, find, step}
 use Rattle.corrections.specs.Flat.{indexBy, Stood, flat}
-use Rattle.run.specs.SettledBits.{flagged}
+use Rattle.settling.specs.SettledBits.{flagged}
 use Rattle.run.specs.Work.{Stands}
 use Rattle.run.specs.Desk.{Held, Answered}
 use Rattle.run.specs.declared.gap.Gap.{Gap}

@@ -1,5 +1,5 @@
 -- The state of a run in code, a struct beside lent arrays, and the state of the definitions that it stands for.
---   31                   fitTests, fitted
+--   31                   wordCount, fitTests, fitted
 --   the numbers          Sane, SaneAfter
 --   where text goes      TextGoes
 --   the relation         Tables, Held, HeldUnder
@@ -16,9 +16,10 @@ use Rattle.library.specs.Yanks.{yanked}
 use Rattle.library.specs.Image.{cardsWords}
 use Rattle.corrections.specs.Step.{TextPlace, nowhere, inYanks, inDeck, State, isSet, Step, went, refused}
 use Rattle.corrections.specs.Safe.{Safe}
+use Rattle.corrections.specs.Counts.{withinCounts}
 use Rattle.corrections.specs.Flat.{HasPlace, flatPlace, deckNumbers}
 use Rattle.run.specs.GapWords.{Ordered}
-use Rattle.run.specs.SettledBits.{flagged}
+use Rattle.settling.specs.SettledBits.{flagged}
 use Rattle.run.specs.Work.{Work}
 use Rattle.run.specs.declared.gap.Gap.{Gap}
 use Rattle.run.specs.declared.desk.Desk.{Desk}
@@ -29,14 +30,13 @@ use Rattle.run.specs.declared.desk.Stepped.the-variants.{Went as Stepped
 use Rattle.corrections.specs.declared.Why.{Why}
 use Rattle.corrections.specs.declared.Why.the-variants.{Limit}
 
+-- the words of the library: the header with YANK$$$ in the deck list, the tables, the cards on both sides of the gap
+abbrev pub wordCount : Desk → ℕ
+wordCount d = 3 + d .entries + d .decks + d .gap .lo + (65536 - d .gap .hi)
+
 -- 31 by counts: the words fit the array, and no limit is passed
 abbrev pub fitTests : Desk → List Bool
-fitTests d =
-    leb (d .gap .lo) (d .gap .hi)
-    ∷ leb (d .entries) 1023
-    ∷ leb (d .decks) 254
-    ∷ leb (d .cards) 16383
-    ∷ leb (3 + d .entries + d .decks + d .gap .lo + (65536 - d .gap .hi)) 65536 ∷ []
+fitTests d = leb (d .gap .lo) (d .gap .hi) ∷ withinCounts (d .entries) (d .decks + 1) (d .cards) (wordCount d) ∷ []
 
 abbrev pub fitted : Desk → Stepped
 fitted d = if allOf (fitTests d) then SteppedOn d else SteppedOff Limit

@@ -2,7 +2,6 @@ pub mod CardHeads
 pub mod GapWords
 pub mod CardSeek
 pub mod ByteMarks
-pub mod SettledBits
 pub mod Work
 pub mod Desk
 pub mod Obeyed

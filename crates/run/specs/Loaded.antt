@@ -15,7 +15,7 @@ use Rattle.library.specs.Check.{good, check}
 use Rattle.corrections.specs.Step.{start}
 use Rattle.run.specs.CardSeek.{CardRun}
 use Rattle.corrections.specs.Flat.{indexBy}
-use Rattle.run.specs.SettledBits.{flagged}
+use Rattle.settling.specs.SettledBits.{flagged}
 use Rattle.run.specs.Corrected.{titled}
 use Rattle.run.specs.Desk.{HeldUnder}
 use Rattle.run.specs.declared.desk.Desk.{Desk}

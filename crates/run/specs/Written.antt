@@ -1,12 +1,10 @@
--- The library in work written out (01, "Header", "Directory", "Deck list", "Cards"; row 32).
---   its words    imageWords
+-- The library in work written out (01, row 32).
 --   the answer   afterLines, Answers, Finishes
 --   a run        Begins, RunsFrom, RunsLines, RunsStream
-use Prim.Native.Nat.{ℕ, _+_, _*_, _^_}
+use Prim.Native.Nat.{ℕ}
 use mathlib.Core.Path.{_≡_}
-use mathlib.Core.List.{List, _∷_, _++_}
-use lib.ListN.{length, take, drop}
-use Rattle.library.specs.Image.{header}
+use mathlib.Core.List.{List}
+use lib.ListN.{length}
 use Rattle.lines.specs.Directive.{lines}
 use Rattle.library.specs.Library.{Library}
 use Rattle.library.specs.Check.{good, check}
@@ -16,11 +14,6 @@ use Rattle.run.specs.Desk.{Held}
 use Rattle.run.specs.Resettled.{Arrays, HeldIn}
 use Rattle.run.specs.declared.desk.Desk.{Desk}
 use Rattle.corrections.specs.declared.Ran.{Ran}
-
--- the tables' words, then those of the cards below the gap and above it
-unfoldable pub imageWords : List ℕ → List ℕ → List ℕ → Desk → List ℕ
-imageWords w dir names d =
-    header ∷ (d .entries * 2 ^ 18 + (d .decks + 1)) ∷ (take (d .entries) dir ++ (take (d .decks + 1) names ++ (take (d .gap .lo) w ++ drop (d .gap .hi) w)))
 
 -- the answer after lines of a stream
 abbrev pub afterLines : ℕ → Steps → Running

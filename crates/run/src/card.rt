@@ -15,8 +15,6 @@ pub(crate) const ACTIVE: u64 = 288230376151711744;
 pub(crate) const LAST: u64 = 576460752303423488;
 // Directory numbers, bits 15-00 of a byte, end below this, which is its bit 16, activating.
 pub(crate) const ACTIVATING: u64 = 65536;
-// Bit 17 of a byte, yanked.
-pub(crate) const YANKED: u64 = 131072;
 // The heads of a history of 64 bytes: the first word has one, the others three.
 const MOST_HEADS: usize = 22;
 

@@ -41,13 +41,6 @@ pub(crate) const ROOM: usize = 65536;
 
 pub(crate) const AHEAD: usize = 3;
 
-// the limits of rows 3 and 5
-const ENTRIES: usize = 1023;
-
-const DECKS: usize = 254;
-
-const CARDS: usize = 16383;
-
 // 31: a limit of rows 1, 3 or 5 would be passed.
 pub(crate) fn limited(d: Desk) -> Stepped
     requires { ⌜ (d .gap .hi ≤ 65536) × ((d .gap .lo ≤ 131072) × ((d .entries ≤ 2000) × (d .decks ≤ 2000))) ⌝ }
@@ -57,17 +50,9 @@ pub(crate) fn limited(d: Desk) -> Stepped
     if g.hi < g.lo {
         return Stepped::Refused(Why::Limit);
     }
-    if ENTRIES < d.entries {
-        return Stepped::Refused(Why::Limit);
+    let words = AHEAD + d.entries + d.decks + g.lo + (ROOM - g.hi);
+    if corrections::within_limits(d.entries, d.decks + 1, d.cards, words) {
+        return Stepped::Went(d);
     }
-    if DECKS < d.decks {
-        return Stepped::Refused(Why::Limit);
-    }
-    if CARDS < d.cards {
-        return Stepped::Refused(Why::Limit);
-    }
-    if ROOM < AHEAD + d.entries + d.decks + g.lo + (ROOM - g.hi) {
-        return Stepped::Refused(Why::Limit);
-    }
-    Stepped::Went(d)
+    Stepped::Refused(Why::Limit)
 }

@@ -1,13 +1,12 @@
 // A library that the check accepted is taken up: its tables and its cards are copied, the decks' numbers flagged, the cards counted.
 ghost use mathlib.Core.Path.{_≡_};
 ghost use Prim.Native.Nat.{_+_, _-_, _≤_, _<_};
-ghost use lib.ListN.{length, drop};
-ghost use lib.Seq.{paste};
+ghost use mathlib.Core.List.{_++_};
+ghost use lib.ListN.{length, take, drop};
 ghost use Rattle.run.specs.Desk.{Sane};
 ghost use Rattle.run.specs.Loaded.{NoFlags, FlagsDecks, FindsTitle, Readable, Loads};
 use crate::card::FIELD;
 use crate::card::see;
-use crate::carry::copy_words;
 use crate::desk::Desk;
 use crate::desk::ROOM;
 use crate::desk::TextAt;
@@ -66,14 +65,13 @@ fn first_title(w: &[u64], to: usize, decks: &[u64]) -> Place
 // The words of an image with n entries and k decks: the directory, the deck list, the cards.
 fn load_words(old: &[u64], n: usize, k: usize, w: &mut [u64], dir: &mut [u64], names: &mut [u64])
     requires { ⌜ (2 + n + k ≤ length (now old)) × ((length (now old) ≤ length (now w)) × ((n ≤ length (now dir)) × (k ≤ length (now names)))) ⌝ }
-    ensures { λ _. ⌜ now (w .exit) ≡ paste (now (w .entry)) 0 (drop (2 + n + k) (now (old .entry))) (length (now (old .entry)) - (2 + n + k)) ⌝ }
-    ensures { λ _. ⌜ now (dir .exit) ≡ paste (now (dir .entry)) 0 (drop 2 (now (old .entry))) n ⌝ }
-    ensures { λ _. ⌜ now (names .exit) ≡ paste (now (names .entry)) 0 (drop (2 + n) (now (old .entry))) k ⌝ }
+    ensures { λ _. ⌜ now (w .exit) ≡ drop (2 + n + k) (now (old .entry)) ++ drop (length (now (old .entry)) - (2 + n + k)) (now (w .entry)) ⌝ }
+    ensures { λ _. ⌜ now (dir .exit) ≡ take n (drop 2 (now (old .entry))) ++ drop n (now (dir .entry)) ⌝ }
+    ensures { λ _. ⌜ now (names .exit) ≡ take k (drop (2 + n) (now (old .entry))) ++ drop k (now (names .entry)) ⌝ }
 {
-    let first = 2 + n + k;
-    copy_words(dir, 0, old, 2, n);
-    copy_words(names, 0, old, 2 + n, k);
-    copy_words(w, 0, old, first, old.len() - first);
+    store::copy(dir, &old[2..2 + n]);
+    store::copy(names, &old[2 + n..2 + n + k]);
+    store::copy(w, &old[2 + n + k..]);
 }
 
 // The library in work at the start of a run: the gap is behind the cards, no unit has begun, and text goes nowhere.

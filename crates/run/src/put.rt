@@ -8,7 +8,6 @@ use crate::card::ACTIVE;
 use crate::card::FIELD;
 use crate::card::LAST;
 use crate::card::UPPER;
-use crate::carry::copy_words;
 use crate::gap::Gap;
 
 // A new card below the gap: the first k words of `text`, its number, and one byte, of the set or deck n.
@@ -26,7 +25,7 @@ pub(crate) fn put_card(w: &mut [u64], g: Gap, text: &[u64], k: usize, seq: u64, 
         };
     }
     w[lo] = LAST + ACTIVE + k as u64 * UPPER + seq * FIELD + ACTIVATING + n;
-    copy_words(w, lo + 1, text, 0, k);
+    store::copy(&mut w[lo + 1..lo + 1 + k], &text[..k]);
     Gap {
         lo: lo + 1 + k,
         hi: hi,

@@ -33,7 +33,7 @@ pub(crate) fn obey_stream(
     let mut n: usize = 1;
     while at < stream.len() {
         let line = lines::line_at(stream, at);
-        let k = line.len();
+        let next = corrections::line_after(at, line);
         let r = obey_line(w, dir, names, decks, flags, d, line);
         match r {
             Stepped::Refused(y) => {
@@ -41,7 +41,7 @@ pub(crate) fn obey_stream(
             }
             Stepped::Went(e) => {
                 d = e;
-                at = at + k + 1;
+                at = next;
                 n += 1;
             }
         }

@@ -1,11 +1,10 @@
 -- What compressing and expanding answer, one law for each way out. Assumes nothing.
 use Prim.Native.Nat.{ℕ, _≤_, _<_}
-use native.Mathlib.Omega.{arith}
-use mathlib.Core.Path.{_≡_, refl, sym, ap}
-use mathlib.Core.Bool.{Bool, true, false}
+use mathlib.Core.Path.{_≡_, sym, ap}
+use mathlib.Core.Bool.{true, false}
 use mathlib.Core.List.{List, _++_}
 use borrow.Author.Tests.{lt-ltb, le-ltb}
-use lib.Dec.{leb, leb→le}
+use lib.Dec.{leb→le}
 use lib.ListN.{length, drop}
 use Rattle.words.specs.Base.{all}
 use Rattle.words.specs.Display.{inChart}
@@ -13,7 +12,7 @@ use Rattle.words.specs.Text.{textWords, says, isText}
 use Rattle.text.specs.Answers.{compressing, compressInto, expanding, expandInto}
 use Rattle.text.specs.declared.Compressed.the-variants.{Words, Outside, Long}
 use Rattle.text.specs.declared.Expanded.the-variants.{Columns, NoText}
-use Rattle.words.proofs.TextTrip.{text-short, written-says, written-fits}
+use Rattle.words.proofs.TextTrip.{text-short}
 
 -- COMPRESSING
 module _ (l d : List ℕ) where
@@ -37,22 +36,8 @@ module _ (l d : List ℕ) where
       (sym q, rw (compressInto, q) (w .1))
 
 -- WHERE WORDS ARE TEXT
--- 80 columns give at most 16 words
-pub text-few : (ws : List ℕ) → isText ws ≡ true → length ws ≤ 16
-text-few ws e =
-    let n : length (says ws) ≤ 80 = leb→le (length (says ws)) 80 (text-short ws e) in
-    omega (arith, ap length (written-says ws e), written-fits (says ws) n)
-
 pub text-fits : (ws : List ℕ) → isText ws ≡ true → length (says ws) ≤ 80
 text-fits ws e = leb→le (length (says ws)) 80 (text-short ws e)
-
--- WHERE THEY ARE NONE
-pub long-text : (ws : List ℕ) → 16 < length ws → isText ws ≡ false
-long-text ws h = go (isText ws) refl
-  where
-    go : (c : Bool) → isText ws ≡ c → c ≡ false
-    go true e = absurd (omega (arith, text-few ws e))
-    go false e = refl
 
 -- EXPANDING
 module _ (ws d : List ℕ) where

@@ -2,12 +2,4 @@ pub mod Putting
 pub mod Squeezing
 pub mod Filling
 pub mod Answers
-pub mod Runs
-pub mod FormSound
-pub mod FormTaken
-pub mod FormWords
-pub mod OneForm
-pub mod Tops
-pub mod FormTable
 pub mod Saying
-pub mod FormWalk

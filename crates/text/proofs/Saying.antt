@@ -16,8 +16,8 @@ use Rattle.words.proofs.Tests.{T-true, true-T}
 use Rattle.words.proofs.Trimming.{blank-letter}
 use Rattle.text.proofs.Answers.{text-fits}
 use Rattle.words.proofs.Passing.{passes, stops}
-use Rattle.text.proofs.OneForm.{text-words}
-use Rattle.text.proofs.Tops.{topCodes, top-word, word-parted}
+use Rattle.form.proofs.OneForm.{text-words}
+use Rattle.form.proofs.Tops.{topCodes, top-word, word-parted}
 
 -- THE COLUMNS OF CODES
 letters-gaps : (n : ℕ) (r : List ℕ) → map letter (replicate n gap ++ r) ≡ replicate n blank ++ map letter r

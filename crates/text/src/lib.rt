@@ -1,10 +1,8 @@
 // Compressed text: a line to words and words to a line.
 mod codes;
 mod columns;
-mod form;
 mod text;
 
-pub use form::is_text;
 pub use text::compress;
 pub use text::compressed_number;
 pub use text::expand;

@@ -1,6 +1,6 @@
 // Words of ten six-bit codes, the first code highest (01, "Text").
 ghost use mathlib.Core.Path.{_≡_};
-ghost use Prim.Native.Nat.{_-_, _/_, _%_, _^_, _<_};
+ghost use Prim.Native.Nat.{_^_};
 ghost use lib.Dec.{ltb};
 ghost use Rattle.words.specs.Base.{if_then_else_};
 
@@ -13,7 +13,7 @@ pub const TEN: usize = 10;
 pub const TOP: u64 = 0o1000000000000000000;
 
 // how many bits a code has
-const BITS: usize = 6;
+pub const BITS: usize = 6;
 
 pub fn wide(x: u8) -> u64
     ensures { λ r. ⌜ r ≡ x ⌝ }
@@ -29,11 +29,4 @@ pub fn power(k: usize) -> u64
         return 0;
     }
     1 << (BITS * k)
-}
-
-pub(crate) fn code_in(word: u64, place: usize) -> u8
-    requires { ⌜ place < 10 ⌝ }
-    ensures { λ r. ⌜ r ≡ word / 64 ^ (9 - place) % 64 ⌝ }
-{
-    ((word >> (BITS * (TEN - 1 - place))) % BASE) as u8
 }

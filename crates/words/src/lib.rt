@@ -1,10 +1,10 @@
-// Words of 60 bits: the display code, columns, names and numbers.
+// Words of 60 bits: the display code and columns.
 mod codes;
 mod columns;
 mod display;
-mod names;
 
 pub use codes::BASE;
+pub use codes::BITS;
 pub use codes::TEN;
 pub use codes::TOP;
 pub use codes::power;
@@ -16,7 +16,3 @@ pub use display::GAP;
 pub use display::code_of;
 pub use display::letter_in;
 pub use display::letter_of;
-pub use names::name_of_word;
-pub use names::number_read;
-pub use names::put_number;
-pub use names::word_of_name;

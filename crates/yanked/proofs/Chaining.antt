@@ -1,41 +1,28 @@
 -- Cards linked by their owners, the last first, and followed along the links. Assumes nothing.
---   zeros-zero, clear-more, clear-all                                     no flag, no card
+--   clear-more, clear-all                                             no flag, no card
 --   Linking, link-start, link-more, link-end    each card goes ahead of its owner's others
 --   Following, follow-start, follow-more, follow-end    one owner's cards
 --   top-more, top-end, top-start, taken-words                         owners from the highest down
 use Prim.Native.Nat.{ℕ, suc, _+_, _-_, _≤_, _<_}
 use native.Mathlib.Omega.{arith}
 use native.Mathlib.Numerals.{add-one}
-use native.Mathlib.Decide.{decLe}
 use mathlib.Core.Path.{_≡_, refl, sym, ap, _∙_, subst}
 use mathlib.Core.Bool.{Bool, true, false}
 use mathlib.Core.List.{List, [], _∷_, _++_}
 use borrow.Author.Tests.{eqb-true, eqb-false, leb-true}
 use lib.Dec.{eqb, leb}
-use lib.ListN.{length, getD, set, take, replicate, length-set, length-replicate, getD-replicate, replicate-append-replicate, List·getD-eq-default}
+use lib.ListN.{length, getD, set, take, length-set, replicate-append-replicate}
 use lib.Seq.{take-suc-set, take-all, take-length, getD-set-same, getD-set-other}
 use Rattle.words.specs.Base.{if_then_else_}
 use Rattle.library.specs.Each.{Each}
 use Rattle.library.proofs.Each.{each-map}
 use Rattle.library.specs.declared.Seen.{Seen}
+use Rattle.entries.proofs.Zeros.{zeros, zeros-zero}
 use Rattle.image.specs.Places.{nextAt, seenAt, placesIn}
 use Rattle.yanked.specs.Flags.{onto, backward, owned, acted, actedAll, fromTop, Chain, Linked}
 use Rattle.image.proofs.Standing.{next-inside, places-more, places-end}
 
 -- CLEARED
-abbrev pub zeros : ℕ → List ℕ
-zeros size = replicate size 0
-
-pub zeros-long : (size : ℕ) → length (zeros size) ≡ size
-zeros-long size = length-replicate size 0
-
-pub zeros-zero : (size n : ℕ) → getD (zeros size) n 0 ≡ 0
-zeros-zero size n = go (decLe size n)
-  where
-    go : Dec (size ≤ n) → getD (zeros size) n 0 ≡ 0
-    go (yes h) = List·getD-eq-default (zeros size) 0 (omega (arith, zeros-long size))
-    go (no h) = getD-replicate size n 0 0 (omega arith)
-
 abbrev pub Cleared : List ℕ → List ℕ → ℕ → Type 0
 Cleared before now i = (length now ≡ length before) × ((i ≤ length before) × (take i now ≡ zeros i))
 

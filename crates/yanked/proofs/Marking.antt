@@ -1,18 +1,16 @@
 -- The flags of the names of a YANK line, one name after another. Assumes nothing.
---   entry-here, entry-on, entry-none            a name's number
 --   mark-none, mark-out, mark-set               one flag
 --   Marking, mark-start, mark-more, mark-end    the names of a field
 --   names-yank, names-other                     the names of a line
 --   act-on, act-off                             a card
-use Prim.Native.Nat.{ℕ, _+_, _≤_, _<_}
-use native.Mathlib.Numerals.{add-one}
+use Prim.Native.Nat.{ℕ, _≤_}
 use mathlib.Core.Path.{_≡_, refl, sym, ap, _∙_}
 use mathlib.Core.Bool.{Bool, true, false}
 use mathlib.Core.List.{List, [], map}
 use borrow.Author.Tests.{eq-eqb, ne-eqb}
 use lib.Dec.{eqb}
-use lib.ListN.{length, getD, drop, set, drop-of-length-le}
-use lib.Seq.{drop-cons, set-out}
+use lib.ListN.{length, set}
+use lib.Seq.{set-out}
 use Rattle.words.specs.Base.{if_then_else_}
 use Rattle.words.specs.Names.{wordOfName}
 use Rattle.lines.specs.Directive.{directive, params, field}
@@ -21,22 +19,11 @@ use Rattle.lines.specs.declared.Line.the-variants.{Text, Skipped, Deck as DeckL
 use Rattle.lines.specs.Reading.{nextName}
 use Rattle.lines.specs.declared.NameStep.the-variants.{Name, End}
 use Rattle.lines.proofs.Walking.{namesFrom, names-none, names-more, yank-names}
-use Rattle.library.specs.Library.{entryFrom, entryOf}
+use Rattle.library.specs.Library.{entryOf}
 use Rattle.library.specs.Yanks.{isYank}
 use Rattle.library.proofs.Anys.{no-true}
 use Rattle.image.specs.Places.{textAt, nextAt, lineIn}
 use Rattle.yanked.specs.Flags.{inForce, namesIn, mark, marked, acted}
-
--- A NAME'S NUMBER, in the directory from a place on
-module _ (w : ℕ) (d : List ℕ) (i : ℕ) where
-  pub entry-here : i < length d → getD d i 0 ≡ w → entryFrom w (i + 1) (drop i d) ≡ i + 1
-  entry-here h e = rw (drop-cons d i 0 h, eq-eqb w (getD d i 0) (sym e))
-
-  pub entry-on : i < length d → (getD d i 0 ≡ w → ⊥) → entryFrom w (i + 1) (drop i d) ≡ entryFrom w (i + 1 + 1) (drop (i + 1) d)
-  entry-on h ne = rw (drop-cons d i 0 h, ne-eqb w (getD d i 0) (λ e. ne (sym e)), add-one (i + 1), add-one i)
-
-  pub entry-none : length d ≤ i → entryFrom w (i + 1) (drop i d) ≡ 0
-  entry-none h = rw (drop-of-length-le d h)
 
 -- ONE FLAG
 module _ (flags : List ℕ) (n : ℕ) where

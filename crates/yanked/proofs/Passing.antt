@@ -29,7 +29,7 @@ use Rattle.library.proofs.Anys.{any-map}
 use Rattle.image.specs.Places.{textAt, nextAt, seenAt, lineIn, placesIn}
 use Rattle.yanked.specs.Flags.{inForce, namesIn, mark, marked, acted, onto, backward, owned, actedAll, fromTop, top, settledFlags}
 use Rattle.yanked.proofs.Marking.{mark-set}
-use Rattle.yanked.proofs.Chaining.{zeros, zeros-long, zeros-zero}
+use Rattle.entries.proofs.Zeros.{zeros, zeros-long, zeros-zero}
 use Rattle.yanked.proofs.Settling.{Lower, ran-settles}
 
 -- LENGTHS stay

@@ -1,4 +1,3 @@
 pub mod Bytes
 pub mod Flags
-pub mod Names
 pub mod Ran

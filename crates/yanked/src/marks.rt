@@ -3,31 +3,16 @@ ghost use mathlib.Core.Path.{_≡_};
 ghost use mathlib.Core.List.{map};
 ghost use Rattle.words.specs.Names.{wordOfName};
 ghost use Rattle.lines.specs.Directive.{params};
-ghost use Rattle.library.specs.Library.{entryOf};
 ghost use Rattle.yanked.specs.Flags.{namesIn, mark, marked, acted};
-ghost use Rattle.yanked.specs.Names.{Knows};
+ghost use Rattle.entries.specs.Names.{Knows};
 ghost use Rattle.image.specs.Places.{lineIn};
 use crate::force::is_active;
-use crate::names::ALL_WAYS;
-use crate::names::entry_by;
+use entries::ALL_WAYS;
+use entries::entry_by;
 use image::COLUMNS;
 use image::line_of;
 use image::see;
 use lines::NameStep;
-
-// The number of a name in the directory; 0 where it is not there.
-pub fn entry_of(directory: &[u64], w: u64) -> usize
-    ensures { λ r. ⌜ r ≡ entryOf (now (directory .entry)) w ⌝ }
-{
-    let mut i = 0;
-    while i < directory.len() {
-        if directory[i] == w {
-            return i + 1;
-        }
-        i += 1;
-    }
-    0
-}
 
 fn mark_number(flags: &mut [u64], n: usize)
     ensures { λ _. ⌜ now (flags .exit) ≡ mark (now (flags .entry)) n ⌝ }

@@ -6,7 +6,7 @@ use mathlib.Core.List.{List}
 use lib.ListN.{length}
 use borrow.Author.Tests.{not-true, not-false}
 use Rattle.library.specs.Check.{firstFailing, okBits}
-use Rattle.rows.specs.Found.{found}
+use Rattle.tables.specs.Found.{found}
 use Rattle.yanked.specs.Bytes.{flagged}
 use Rattle.checks.proofs.Spanning.{Still, still-start, still-on, still-here, still-end}
 use Rattle.checks.proofs.Showing.{shown-next, shown-place}

@@ -11,7 +11,7 @@ use borrow.Author.Tests.{not-true, not-false}
 use Rattle.words.specs.Base.{isNil}
 use Rattle.library.specs.Library.{deckLine}
 use Rattle.library.specs.Check.{Stored, row7, faultIf}
-use Rattle.rows.specs.Found.{found}
+use Rattle.tables.specs.Found.{found}
 use Rattle.checks.proofs.Spanning.{Still, still-start, still-on, still-here, still-end}
 use Rattle.checks.proofs.Showing.{shown-next, shown-place}
 use Rattle.checks.proofs.Decking.{shown-begins, shown-ok, none-ok, row-on, row-taken, row-here, names-more}

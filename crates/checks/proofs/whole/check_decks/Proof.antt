@@ -3,7 +3,7 @@ use mathlib.Core.Path.{sym, _∙_}
 use lib.ListN.{length, drop}
 use Rattle.library.specs.Check.{row7}
 use Rattle.library.specs.declared.Fault.the-variants.{Decks}
-use Rattle.rows.proofs.Seeing.{found-none}
+use Rattle.tables.proofs.Answering.{found-none}
 use Rattle.checks.specs.Rows.{afterDecks}
 use Rattle.checks.proofs.Checking.{or-at, or-on, row7-found}
 use borrow.Author.Needs.{needs}

@@ -4,7 +4,7 @@ use mathlib.Core.List.{List}
 use Prim.Native.Nat.{ℕ}
 use Rattle.library.specs.Check.{firstFailing, okBits}
 use Rattle.yanked.specs.Bytes.{flagged}
-use Rattle.rows.specs.Found.{found}
+use Rattle.tables.specs.Found.{found}
 use borrow.Author.Needs.{needs}
 use Rattle.checks.proofs.whole.stored_fault.Statement.{statement}
 use Rattle.checks.proofs.whole.stored_fault.Tie as tie

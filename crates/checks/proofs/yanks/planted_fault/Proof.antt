@@ -5,7 +5,7 @@ use native.Mathlib.Omega.{arith}
 use lib.ListN.{length}
 use borrow.Author.Tests.{not-true, not-false}
 use Rattle.library.specs.Check.{firstFailing, okYank}
-use Rattle.rows.specs.Found.{found}
+use Rattle.tables.specs.Found.{found}
 use Rattle.checks.proofs.Spanning.{Still, still-start, still-on, still-here, still-end}
 use Rattle.checks.proofs.Showing.{shown-next, shown-place}
 use Rattle.checks.proofs.Decking.{failing-on, failing-here}

@@ -1,7 +1,7 @@
 -- The names are planted from ways that are all zero. Assumes nothing.
 use mathlib.Core.Path.{sym, subst}
-use Rattle.yanked.specs.Names.{Knows}
-use Rattle.yanked.proofs.NameTree.{planted-entry}
+use Rattle.entries.specs.Names.{Knows}
+use Rattle.entries.proofs.NameTree.{planted-entry}
 use borrow.Author.Needs.{needs}
 use Rattle.checks.proofs.yanks.yanks_fault.Statement.{statement}
 use Rattle.checks.proofs.yanks.yanks_fault.Tie as tie

@@ -2,7 +2,7 @@
 use Prim.Native.Nat.{_/_, _%_, _^_, _<_}
 use native.Mathlib.Omega.{arith}
 use borrow.Author.Tests.{eq-eqb, ne-eqb, lt-ltb, le-ltb}
-use Rattle.rows.proofs.Listing.{and-true}
+use Rattle.tables.proofs.Listing.{and-true}
 use Rattle.rows.proofs.Testing.{never}
 use borrow.Author.Needs.{needs}
 use Rattle.rows.proofs.cards.first_ok.Statement.{statement}

@@ -6,7 +6,7 @@ use lib.ListN.{length, drop}
 use borrow.Author.Tests.{le-leb, lt-leb}
 use Rattle.words.specs.Base.{placeFrom}
 use Rattle.library.specs.Check.{isLastWord}
-use Rattle.rows.specs.Found.{found}
+use Rattle.tables.specs.Found.{found}
 use Rattle.library.proofs.Searching.{place-here, place-on, place-none}
 use borrow.Author.Needs.{needs}
 use Rattle.rows.proofs.cards.heads_of.Statement.{statement}

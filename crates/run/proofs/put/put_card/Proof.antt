@@ -1,11 +1,15 @@
 -- The head has one activating byte of a set that is not yanked, so the card is active; the text follows it.
-use mathlib.Core.Path.{_∙_}
 use native.Mathlib.Omega.{arith}
+use mathlib.Core.Path.{sym}
 use lib.ListN.{length-set}
-use Rattle.run.proofs.Putting.{newHead, put-none, put-done, work-put}
+use lib.Seq.{length-take-le}
+use Rattle.run.proofs.Putting.{newHead, put-none, put-copied, work-put}
 use borrow.Author.Needs.{needs}
 use Rattle.run.proofs.put.put_card.Statement.{statement}
 use Rattle.run.proofs.put.put_card.Tie as tie
+use Rattle.run.proofs.put.put_card.Reads as reads
+use Rattle.run.proofs.put.put_card.Lts as lts
+use Rattle.store.proofs.copy.Reads as copy-reads
 
 add-if1 : tie.Need-add-if1
 add-if1 c = search needs
@@ -55,31 +59,54 @@ mul-w-3 c = search needs
 slice-write-w : tie.Need-slice-write-w
 slice-write-w c = search needs
 
-add-copy-words : tie.Need-add-copy-words
-add-copy-words c = search needs
+add-copy : tie.Need-add-copy
+add-copy c = search needs
 
-copy-words-requires : tie.Need-copy-words-requires
-copy-words-requires c κs = (omega arith, rw length-set (omega arith))
+add-copy-2 : tie.Need-add-copy-2
+add-copy-2 c = search needs
 
-add-t9 : tie.Need-add-t9
-add-t9 c = search needs
+add-copy-3 : tie.Need-add-copy-3
+add-copy-3 c = search needs
+
+mul-copy : tie.Need-mul-copy
+mul-copy c = search needs
+
+sub-copy : tie.Need-sub-copy
+sub-copy c = search needs
+
+part-copy-start : tie.Need-part-copy-start
+part-copy-start c = search needs
+
+part-copy-end : tie.Need-part-copy-end
+part-copy-end c = simp length-set (omega arith)
+
+slice-aggregate-copy : tie.Need-slice-aggregate-copy
+slice-aggregate-copy c =
+    let a = c .before .before .before .before .before .args in
+    sym (length-take-le (a .k) (a .text .now) (c .before .before .before .before .before .pre .1 .1 .0))
+
+copy-requires : tie.Need-copy-requires
+copy-requires c κs = search needs
 
 add-t10 : tie.Need-add-t10
 add-t10 c = search needs
 
+add-t27 : tie.Need-add-t27
+add-t27 c = search needs
+
 same-length : tie.Need-same-length
 same-length c =
-    let a = c .before .before .before .before .before .before .before .args in
-    c .before .before .copy-words .kept .0 ∙ length-set (a .w .now) (a .g .lo) (newHead (a .k) (a .seq) (a .n))
+    let a = c .before .before .before .before .before .before .before .before .args in
+    omega (arith, c .before .before .copy .kept .0, length-set (a .w .now) (a .g .lo) (newHead (a .k) (a .seq) (a .n)))
 
 returns-2 : tie.Need-returns-2
 returns-2 c =
-    let a = c .before .before .before .before .before .before .before .args in
-    let p = c .before .before .before .before .before .before .before .pre in (
+    let a = c .before .before .before .before .before .before .before .before .args in
+    let p = c .before .before .before .before .before .before .before .before .pre in (
       omega arith,
       work-put (a .w .now) (a .g) (a .text .now) (a .k) (a .seq) (a .n) (p .0) (p .1 .1 .0) (p .1 .1 .1 .0) (p .1 .1 .1 .1 .0)
-          (p .1 .1 .1 .1 .1) _ _ (rw (c .before .before .copy-words .ensures)
-          (put-done (a .w .now) (a .g) (a .text .now) (a .k) (a .seq) (a .n) (p .0) (p .1 .1 .0) (c .before .before .before .before .if1 .left))),
+          (p .1 .1 .1 .1 .1) _ _ (rw (c .before .before .copy .ensures)
+          (put-copied (a .w .now) (a .g) (a .text .now) (a .k) (a .seq) (a .n) (p .0) (p .1 .1 .0) (c .before .before .before .before .before .if1 .left))),
     )
 
 pub put-card-spec : {M : Type 1} → statement M
@@ -100,9 +127,16 @@ put-card-spec =
     add-w-5
     mul-w-3
     slice-write-w
-    add-copy-words
-    copy-words-requires
-    add-t9
+    add-copy
+    add-copy-2
+    add-copy-3
+    mul-copy
+    sub-copy
+    part-copy-start
+    part-copy-end
+    slice-aggregate-copy
+    copy-requires
     add-t10
+    add-t27
     same-length
     returns-2)

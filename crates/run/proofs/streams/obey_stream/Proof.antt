@@ -3,18 +3,17 @@ use Rattle.run.specs.Desk.{SaneAfter}
 use Rattle.run.specs.Resettled.{ObeysLine}
 use Prim.Native.Nat.{_+_, _-_, _≤_, _<_}
 use native.Mathlib.Omega.{arith}
-use mathlib.Core.Path.{_≡_, refl, _∙_, subst, ap}
-use lib.ListN.{length, drop}
-use Rattle.lines.specs.Directive.{lineOf}
-use Rattle.lines.proofs.Streams.{line-within}
+use mathlib.Core.Path.{_≡_, refl, _∙_, subst}
+use lib.ListN.{length}
 use Rattle.run.specs.Streamed.{inArrays}
-use Rattle.run.proofs.Streaming.{Going, Goes, goes-start, goes-more, goes-stop, goes-end}
+use Rattle.run.proofs.Streaming.{Going, Goes, next-place, goes-start, goes-more, goes-stop, goes-end}
 use borrow.Author.Needs.{needs}
 use Rattle.run.proofs.streams.obey_stream.Statement.{statement}
 use Rattle.run.proofs.streams.obey_stream.Tie as tie
 use Rattle.run.proofs.streams.obey_stream.Reads as reads
 use Rattle.run.proofs.streams.obey_stream.Lts as lts
 use Rattle.lines.proofs.line_at.Reads as line-at-reads
+use Rattle.corrections.proofs.line_after.Reads as line-after-reads
 use Rattle.run.proofs.obey.obey_line.Reads as obey-line-reads
 
 abbrev Inv-loop : tie.InvT-loop
@@ -43,6 +42,9 @@ loop-holds c =
 line-at-requires : tie.Need-line-at-requires Inv-loop μ-loop
 line-at-requires c κs = search needs
 
+line-after-requires : tie.Need-line-after-requires Inv-loop μ-loop
+line-after-requires c κs = search needs
+
 obey-line-requires : tie.Need-obey-line-requires Inv-loop μ-loop
 obey-line-requires c κs = search needs
 
@@ -66,91 +68,69 @@ same-length-5 c = search needs
 
 returns : tie.Need-returns Inv-loop μ-loop
 returns c =
-    let a = c .before .before .before .before .before .before .before .before .before .before .before .before .before .before .before .before .before .before .before .before .before .before .before .before .before .before .before .before .args in
-    let l = c .before .before .before .before .before .before .before .before .before .before .before .before .before .before .before .before .before .before .before .before .before .loop in
+    let a = c .before .before .before .before .before .before .before .before .before .before .before .before .before .before .before .before .before .before .before .before .before .before .before .before .before .before .before .before .before .args in
+    let l = c .before .before .before .before .before .before .before .before .before .before .before .before .before .before .before .before .before .before .before .before .before .before .loop in
+    let lt : l .at < length (a .stream .now) = c .before .before .before .before .before .before .before .before .before .before .before .before .before .before .before .before .before .before .before .before .before .loop-test .taken in
     let p = c .before .before .before .before .before .before .before .before .before .before .before .before .before .obey-line in
     let k = c .before .r .given in
-    let line = c .before .before .before .before .before .before .before .before .before .before .before .before .before .before .before .before .before .before .before .line-at .result .now in
+    let line = c .before .before .before .before .before .before .before .before .before .before .before .before .before .before .before .before .before .before .before .before .line-at in
     let old = inArrays (a .w .now) (a .dir .now) (a .names .now) (a .decks .now) (a .flags .now) in
     let here = inArrays (l .w) (l .dir) (l .names) (l .decks) (l .flags) in
     let new = inArrays (p .last .0) (p .last .1 .0) (p .last .1 .1 .0) (p .last .1 .1 .1 .0) (p .last .1 .1 .1 .1 .0) in
-    (tt, goes-stop old (a .first) (a .stream .now) here (l .d) (l .n) (l .at) (l .inv .1) line (c .before .before .before .before .before .before .before .before .before .before .before .before .before .before .before .before .before .before .before .line-at .ensures) (c .before .before .before .before .before .before .before .before .before .before .before .before .before .before .before .before .before .before .before .before .loop-test .taken) new (k .0 .0) (subst (ObeysLine here (l .d) line new) (k .1) (p .ensures .1)))
+    (tt, goes-stop old (a .first) (a .stream .now) here (l .d) (l .n) (l .at) (l .inv .1) (line .result .now) (line .ensures) lt new (k .0 .0) (subst (ObeysLine here (l .d) (line .result .now) new) (k .1) (p .ensures .1)))
 
 enum-known-r-2 : tie.Need-enum-known-r-2 Inv-loop μ-loop
 enum-known-r-2 c = search needs
 
-add-at : tie.Need-add-at Inv-loop μ-loop
-add-at c =
-    let a = c .before .before .before .before .before .before .before .before .before .before .before .before .before .before .before .before .before .before .before .before .before .before .before .before .before .before .before .before .args in
-    let l = c .before .before .before .before .before .before .before .before .before .before .before .before .before .before .before .before .before .before .before .before .before .loop in
-    let i = l .inv .0 in
-    let line = c .before .before .before .before .before .before .before .before .before .before .before .before .before .before .before .before .before .before .before .line-at .result .now in
-    let long : length line ≡ length (lineOf (drop (l .at) (a .stream .now))) = ap length (c .before .before .before .before .before .before .before .before .before .before .before .before .before .before .before .before .before .before .before .line-at .ensures) in
-    let lt : l .at < length (a .stream .now) = c .before .before .before .before .before .before .before .before .before .before .before .before .before .before .before .before .before .before .before .before .loop-test .taken in
-    let short : length (a .stream .now) ≤ 262144 = c .before .before .before .before .before .before .before .before .before .before .before .before .before .before .before .before .before .before .before .before .before .before .before .before .before .before .before .before .pre .1 .1 .1 .1 .1 in
-    let number : l .n ≤ l .at + 1 = i .number in
-    let end : l .at + length (lineOf (drop (l .at) (a .stream .now))) ≤ length (a .stream .now) = line-within (a .stream .now) (l .at) (omega arith) in
-    search needs
-
-add-at-2 : tie.Need-add-at-2 Inv-loop μ-loop
-add-at-2 c =
-    let a = c .before .before .before .before .before .before .before .before .before .before .before .before .before .before .before .before .before .before .before .before .before .before .before .before .before .before .before .before .args in
-    let l = c .before .before .before .before .before .before .before .before .before .before .before .before .before .before .before .before .before .before .before .before .before .loop in
-    let i = l .inv .0 in
-    let line = c .before .before .before .before .before .before .before .before .before .before .before .before .before .before .before .before .before .before .before .line-at .result .now in
-    let long : length line ≡ length (lineOf (drop (l .at) (a .stream .now))) = ap length (c .before .before .before .before .before .before .before .before .before .before .before .before .before .before .before .before .before .before .before .line-at .ensures) in
-    let lt : l .at < length (a .stream .now) = c .before .before .before .before .before .before .before .before .before .before .before .before .before .before .before .before .before .before .before .before .loop-test .taken in
-    let short : length (a .stream .now) ≤ 262144 = c .before .before .before .before .before .before .before .before .before .before .before .before .before .before .before .before .before .before .before .before .before .before .before .before .before .before .before .before .pre .1 .1 .1 .1 .1 in
-    let number : l .n ≤ l .at + 1 = i .number in
-    let end : l .at + length (lineOf (drop (l .at) (a .stream .now))) ≤ length (a .stream .now) = line-within (a .stream .now) (l .at) (omega arith) in
-    search needs
-
 add-n : tie.Need-add-n Inv-loop μ-loop
 add-n c =
-    let a = c .before .before .before .before .before .before .before .before .before .before .before .before .before .before .before .before .before .before .before .before .before .before .before .before .before .before .before .before .args in
-    let l = c .before .before .before .before .before .before .before .before .before .before .before .before .before .before .before .before .before .before .before .before .before .loop in
-    let i = l .inv .0 in
-    let line = c .before .before .before .before .before .before .before .before .before .before .before .before .before .before .before .before .before .before .before .line-at .result .now in
-    let long : length line ≡ length (lineOf (drop (l .at) (a .stream .now))) = ap length (c .before .before .before .before .before .before .before .before .before .before .before .before .before .before .before .before .before .before .before .line-at .ensures) in
-    let lt : l .at < length (a .stream .now) = c .before .before .before .before .before .before .before .before .before .before .before .before .before .before .before .before .before .before .before .before .loop-test .taken in
-    let short : length (a .stream .now) ≤ 262144 = c .before .before .before .before .before .before .before .before .before .before .before .before .before .before .before .before .before .before .before .before .before .before .before .before .before .before .before .before .pre .1 .1 .1 .1 .1 in
-    let number : l .n ≤ l .at + 1 = i .number in
-    let end : l .at + length (lineOf (drop (l .at) (a .stream .now))) ≤ length (a .stream .now) = line-within (a .stream .now) (l .at) (omega arith) in
+    let a = c .before .before .before .before .before .before .before .before .before .before .before .before .before .before .before .before .before .before .before .before .before .before .before .before .before .before .before .before .before .args in
+    let l = c .before .before .before .before .before .before .before .before .before .before .before .before .before .before .before .before .before .before .before .before .before .before .loop in
+    let lt : l .at < length (a .stream .now) = c .before .before .before .before .before .before .before .before .before .before .before .before .before .before .before .before .before .before .before .before .before .loop-test .taken in
+    let short : length (a .stream .now) ≤ 262144 = c .before .before .before .before .before .before .before .before .before .before .before .before .before .before .before .before .before .before .before .before .before .before .before .before .before .before .before .before .before .pre .1 .1 .1 .1 .1 in
+    let number : l .n ≤ l .at + 1 = l .inv .0 .number in
     search needs
 
 loop-less : tie.Need-loop-less Inv-loop μ-loop
-loop-less c = search needs
+loop-less c =
+    let a = c .before .before .before .before .before .before .before .before .before .before .before .before .before .before .before .before .before .before .before .before .before .before .before .before .before .before .before .before .before .args in
+    let l = c .before .before .before .before .before .before .before .before .before .before .before .before .before .before .before .before .before .before .before .before .before .before .loop in
+    let lt : l .at < length (a .stream .now) = c .before .before .before .before .before .before .before .before .before .before .before .before .before .before .before .before .before .before .before .before .before .loop-test .taken in
+    let short : length (a .stream .now) ≤ 262144 = c .before .before .before .before .before .before .before .before .before .before .before .before .before .before .before .before .before .before .before .before .before .before .before .before .before .before .before .before .before .pre .1 .1 .1 .1 .1 in
+    let line = c .before .before .before .before .before .before .before .before .before .before .before .before .before .before .before .before .before .before .before .before .line-at in
+    let next = c .before .before .before .before .before .before .before .before .before .before .before .before .before .before .before .before .before .before .before .line-after in
+    let place = next-place (a .stream .now) (l .at) lt short (line .result .now) (line .ensures) (next .result) (next .ensures) in
+    omega (arith, place .0)
 
 loop-again : tie.Need-loop-again Inv-loop μ-loop
 loop-again c =
-    let a = c .before .before .before .before .before .before .before .before .before .before .before .before .before .before .before .before .before .before .before .before .before .before .before .before .before .before .before .before .args in
-    let l = c .before .before .before .before .before .before .before .before .before .before .before .before .before .before .before .before .before .before .before .before .before .loop in
+    let a = c .before .before .before .before .before .before .before .before .before .before .before .before .before .before .before .before .before .before .before .before .before .before .before .before .before .before .before .before .before .args in
+    let l = c .before .before .before .before .before .before .before .before .before .before .before .before .before .before .before .before .before .before .before .before .before .before .loop in
+    let lt : l .at < length (a .stream .now) = c .before .before .before .before .before .before .before .before .before .before .before .before .before .before .before .before .before .before .before .before .before .loop-test .taken in
+    let short : length (a .stream .now) ≤ 262144 = c .before .before .before .before .before .before .before .before .before .before .before .before .before .before .before .before .before .before .before .before .before .before .before .before .before .before .before .before .before .pre .1 .1 .1 .1 .1 in
     let p = c .before .before .before .before .before .before .before .before .before .before .before .before .before .obey-line in
     let k = c .before .r2 .given in
-    let line = c .before .before .before .before .before .before .before .before .before .before .before .before .before .before .before .before .before .before .before .line-at .result .now in
+    let line = c .before .before .before .before .before .before .before .before .before .before .before .before .before .before .before .before .before .before .before .before .line-at in
     let old = inArrays (a .w .now) (a .dir .now) (a .names .now) (a .decks .now) (a .flags .now) in
     let here = inArrays (l .w) (l .dir) (l .names) (l .decks) (l .flags) in
     let new = inArrays (p .last .0) (p .last .1 .0) (p .last .1 .1 .0) (p .last .1 .1 .1 .0) (p .last .1 .1 .1 .1 .0) in
+    let next = c .before .before .before .before .before .before .before .before .before .before .before .before .before .before .before .before .before .before .before .line-after in
+    let place = next-place (a .stream .now) (l .at) lt short (line .result .now) (line .ensures) (next .result) (next .ensures) in
     let same1 : length (p .last .1 .0) ≡ length (l .dir) = search needs in
     let same2 : length (p .last .1 .1 .0) ≡ length (l .names) = search needs in
     let same3 : length (p .last .1 .1 .1 .0) ≡ length (l .decks) = search needs in
     let same4 : length (p .last .1 .1 .1 .1 .0) ≡ length (l .flags) = search needs in
-    let long : length line ≡ length (lineOf (drop (l .at) (a .stream .now))) = ap length (c .before .before .before .before .before .before .before .before .before .before .before .before .before .before .before .before .before .before .before .line-at .ensures) in
-    let i = l .inv .0 in
-    let lt : l .at < length (a .stream .now) = c .before .before .before .before .before .before .before .before .before .before .before .before .before .before .before .before .before .before .before .before .loop-test .taken in
-    let short : length (a .stream .now) ≤ 262144 = c .before .before .before .before .before .before .before .before .before .before .before .before .before .before .before .before .before .before .before .before .before .before .before .before .before .before .before .before .pre .1 .1 .1 .1 .1 in
-    let number : l .n ≤ l .at + 1 = i .number in
-    let end : l .at + length (lineOf (drop (l .at) (a .stream .now))) ≤ length (a .stream .now) = line-within (a .stream .now) (l .at) (omega arith) in (
+    let i = l .inv .0 in (
       record {
         sane = subst (SaneAfter (p .last .0)) (k .1) (p .ensures .0);
         directory = same1 ∙ i .directory;
         listed = same2 ∙ i .listed;
         numbers = same3 ∙ i .numbers;
         flagged = same4 ∙ i .flagged;
-        within = omega (arith, long, end);
-        number = omega (arith, i .number);
+        within = place .1;
+        number = omega (arith, i .number, place .0);
       },
-      goes-more old (a .first) (a .stream .now) here (l .d) (l .n) (l .at) (l .inv .1) line (c .before .before .before .before .before .before .before .before .before .before .before .before .before .before .before .before .before .before .before .line-at .ensures) lt new (k .0 .0) (subst (ObeysLine here (l .d) line new) (k .1) (p .ensures .1)),
+      goes-more old (a .first) (a .stream .now) here (l .d) (l .n) (l .at) (l .inv .1) (line .result .now) (line .ensures) lt new (k .0 .0) (next .result) (place .0) (subst (ObeysLine here (l .d) (line .result .now) new) (k .1) (p .ensures .1)),
     )
 
 same-length-6 : tie.Need-same-length-6 Inv-loop μ-loop
@@ -184,6 +164,7 @@ obey-stream-spec =
     μ-loop
     loop-holds
     line-at-requires
+    line-after-requires
     obey-line-requires
     enum-known-r
     same-length
@@ -193,8 +174,6 @@ obey-stream-spec =
     same-length-5
     returns
     enum-known-r-2
-    add-at
-    add-at-2
     add-n
     loop-less
     loop-again

@@ -35,7 +35,7 @@ settle-all-requires c κs =
     let a = c .before .before .before .before .before .before .before .before .before .before .before .before .args in
     let f = c .before .before .before .before .before .settle in
     let same : length (f .last .1 .1 .0) ≡ length (a .flags .now) = search needs in
-    (pre .0 .ordered, (omega (arith, pre .0 .room), first-clear (f .last .1 .1 .0) (omega (arith, pre .1 .1 .1))))
+    (pre .0 .ordered, first-clear (f .last .1 .1 .0) (omega (arith, pre .1 .1 .1)))
 
 same-length : tie.Need-same-length
 same-length c = search needs

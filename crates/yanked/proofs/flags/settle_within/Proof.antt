@@ -1,8 +1,8 @@
 -- The names are planted from ways that are all zero. Assumes nothing.
 use mathlib.Core.Path.{sym, subst}
 use native.Mathlib.Omega.{arith}
-use Rattle.yanked.specs.Names.{Knows}
-use Rattle.yanked.proofs.NameTree.{planted-entry}
+use Rattle.entries.specs.Names.{Knows}
+use Rattle.entries.proofs.NameTree.{planted-entry}
 use borrow.Author.Needs.{needs}
 use Rattle.yanked.proofs.flags.settle_within.Statement.{statement}
 use Rattle.yanked.proofs.flags.settle_within.Tie as tie

@@ -1,0 +1,6 @@
+// The one right form of a text: whether words are the words of a line.
+mod form;
+
+pub use form::COLUMNS;
+pub use form::WORDS;
+pub use form::is_text;

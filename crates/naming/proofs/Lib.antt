@@ -1,0 +1,4 @@
+pub mod Counted
+pub mod Pointing
+pub mod Judging
+pub mod Entered

@@ -1,0 +1,3 @@
+pub mod Fixing
+pub mod Histories
+pub mod Cards

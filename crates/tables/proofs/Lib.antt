@@ -1,0 +1,3 @@
+pub mod Tabling
+pub mod Listing
+pub mod Answering

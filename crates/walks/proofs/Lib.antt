@@ -1,0 +1,8 @@
+pub mod ViewBack
+pub mod AlikeView
+pub mod Showing
+pub mod Printing
+pub mod Finding
+pub mod Putting
+pub mod Stepping
+pub mod Decking

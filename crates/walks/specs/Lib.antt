@@ -1,0 +1,5 @@
+pub mod View
+pub mod Walk
+pub mod Lines
+pub mod TableView
+pub mod Steps
