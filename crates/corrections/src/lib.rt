@@ -2,7 +2,7 @@
 ghost use mathlib.Core.Path.{_≡_};
 ghost use lib.ListN.{length};
 ghost use Rattle.lines.specs.Directive.{lineAfter};
-ghost use Rattle.corrections.specs.Counts.{withinCounts};
+ghost use Rattle.corrections.specs.Counts.{withinCounts, numberAfter};
 ghost use Rattle.corrections.specs.Run.{whyNumber, ranNumber, ranValue};
 use library::Fault;
 
@@ -125,4 +125,17 @@ pub fn line_after(at: usize, line: &[u8]) -> usize
         return at;
     }
     at + line.len() + 1
+}
+
+// the largest number of a card
+const LARGEST: u64 = 262143;
+
+// The number of a unit's next card, after the one with this number; past any number it stays.
+pub fn number_after(seq: u64) -> u64
+    ensures { λ r. ⌜ r ≡ numberAfter seq ⌝ }
+{
+    if LARGEST < seq {
+        return seq;
+    }
+    seq + 1
 }

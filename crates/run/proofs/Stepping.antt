@@ -7,7 +7,7 @@ use mathlib.Core.List.{List, [], _∷_, _++_, append-assoc}
 use lib.Dec.{T, leb, leb→le, le→leb}
 use lib.ListN.{length, take, drop, length-append, length-drop, length-take}
 use lib.Seq.{take-append-seam, drop-append-seam, take-at, drop-at}
-use borrow.Author.Tests.{le-leb}
+use borrow.Author.Tests.{le-leb, le-ltb}
 use Rattle.words.specs.Base.{if_then_else_, all, allOf}
 use Rattle.words.specs.Text.{trim}
 use Rattle.words.proofs.Tests.{T-true}
@@ -23,7 +23,7 @@ use Rattle.library.proofs.Each.{allOf-each, each-allOf}
 use Rattle.corrections.specs.Step.{TextPlace, nowhere, inYanks, inDeck, State, Step, went, refused, limited, newCard, putIn, changeAt, afterText, putText, obey, step, unitNumber, withDecks}
 use Rattle.corrections.specs.Safe.{Begun, Open, Safe}
 use Rattle.corrections.specs.Flat.{HasPlace, flatPlace, deckNumbers}
-use Rattle.corrections.specs.Counts.{countTests, withinCounts}
+use Rattle.corrections.specs.Counts.{countTests, withinCounts, numberAfter}
 use Rattle.run.specs.GapWords.{Parted, Ordered}
 use Rattle.run.specs.CardHeads.{Fits, cardOf}
 use Rattle.run.specs.Work.{Work, PutCard}
@@ -80,6 +80,11 @@ fitted-yes d f = ap (λ (b : Bool). if b then SteppedOn d else SteppedOff Limit)
 
 pub fitted-no : (d : Desk) → (Fitting d → ⊥) → fitted d ≡ SteppedOff Limit
 fitted-no d f = ap (λ (b : Bool). if b then SteppedOn d else SteppedOff Limit) (bool-iff (allOf (fitTests d)) false (λ t. absurd (f (fits-of d t))) (λ t. absurd t))
+
+-- the number of the next card
+pub number-after-is : (n : ℕ) → n ≤ 262143 → numberAfter n ≡ n + 1
+unfolding numberAfter
+number-after-is n h = rw (le-ltb 262143 n h)
 
 -- where the words fit the array, the counts say
 pub fitted-counts : (d : Desk) (b : Bool) → d .gap .lo ≤ d .gap .hi → withinCounts (d .entries) (d .decks + 1) (d .cards) (wordCount d) ≡ b

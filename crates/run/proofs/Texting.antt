@@ -142,9 +142,12 @@ module _ (w : List ℕ) (d : Desk) (line v dir names decks flags : List ℕ) (s 
       go (inDeck k i) q h = absurd h
 
 -- the state after it
+abbrev pub textDeskAt : Desk → Gap → ℕ → Desk
+textDeskAt d h next =
+    record { gap = h; low = d .low + 1; entries = d .entries; decks = d .decks; cards = d .cards + 1; yanks = d .yanks; lead = d .lead; set = d .set; next = next; place = TextGap }
+
 abbrev pub textDesk : Desk → Gap → Desk
-textDesk d h =
-    record { gap = h; low = d .low + 1; entries = d .entries; decks = d .decks; cards = d .cards + 1; yanks = d .yanks; lead = d .lead; set = d .set; next = d .next + 1; place = TextGap }
+textDesk d h = textDeskAt d h (d .next + 1)
 
 module _ (w : List ℕ) (d : Desk) (line v : List ℕ) (h : Gap) (room : length w ≡ 65536) (same : length v ≡ 65536) (high : h .hi ≤ length w) (puts : PutsLine w (d .gap) line (d .next) (d .entries) v h)
     (dir names decks flags : List ℕ) (s : State) (asks : directive line ≡ Text) (held : Held w dir names decks flags d s)

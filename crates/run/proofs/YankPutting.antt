@@ -35,9 +35,12 @@ use Rattle.corrections.proofs.FlatLimits.{words, words-under, Small, within-sma
 use Rattle.run.proofs.Stepping.{work-words, fitted-yes, Counted, limited-answer}
 use Rattle.run.proofs.Texting.{begun-pos}
 
+abbrev pub yankDeskAt : Desk → Gap → ℕ → Desk
+yankDeskAt d h next =
+    record { gap = h; low = d .yanks + 1; entries = d .entries; decks = d .decks; cards = d .cards + 1; yanks = d .yanks + 1; lead = h .lo; set = d .set; next = next; place = TextNowhere }
+
 abbrev pub yankDesk : Desk → Gap → Desk
-yankDesk d h =
-    record { gap = h; low = d .yanks + 1; entries = d .entries; decks = d .decks; cards = d .cards + 1; yanks = d .yanks + 1; lead = h .lo; set = d .set; next = d .next + 1; place = TextNowhere }
+yankDesk d h = yankDeskAt d h (d .next + 1)
 
 pub lead-after : (d : Desk) (h : Gap) → LeadAfter (fitted (yankDesk d h))
 lead-after d h = go (allOf (fitTests (yankDesk d h)))

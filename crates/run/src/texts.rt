@@ -40,6 +40,7 @@ pub(crate) fn text_step(w: &mut [u64], d: Desk, line: &[u8]) -> Stepped
         TextAt::Nowhere => Stepped::Refused(Why::Nowhere),
         TextAt::Yanks => Stepped::Refused(Why::Barred),
         TextAt::Gap => {
+            let next = corrections::number_after(d.next);
             let h = put_line(w, g, line, d.next, d.entries as u64);
             limited(Desk {
                 gap: h,
@@ -50,7 +51,7 @@ pub(crate) fn text_step(w: &mut [u64], d: Desk, line: &[u8]) -> Stepped
                 yanks: d.yanks,
                 lead: d.lead,
                 set: d.set,
-                next: d.next + 1,
+                next: next,
                 place: TextAt::Gap,
             })
         }

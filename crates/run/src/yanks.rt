@@ -92,6 +92,7 @@ fn put_yank(w: &mut [u64], d: Desk, line: &[u8]) -> Stepped
     if w.len() < d.lead {
         return Stepped::Refused(Why::Limit);
     }
+    let next = corrections::number_after(d.next);
     let g = d.gap;
     let m = open_at(w, g, d.lead);
     let h = put_line(w, m, line, d.next, d.entries as u64);
@@ -104,7 +105,7 @@ fn put_yank(w: &mut [u64], d: Desk, line: &[u8]) -> Stepped
         yanks: d.yanks + 1,
         lead: h.lo,
         set: d.set,
-        next: d.next + 1,
+        next: next,
         place: TextAt::Nowhere,
     })
 }

@@ -1,13 +1,13 @@
 -- Where text goes nowhere or into YANK$$$ it is refused; else the card at the gap is the new card, and the limits are tested by counts.
 use Prim.Native.Nat.{ℕ, _+_, _≤_}
 use native.Mathlib.Omega.{arith}
-use mathlib.Core.Path.{_≡_, refl, sym, _∙_, subst}
+use mathlib.Core.Path.{_≡_, refl, sym, ap, _∙_, subst}
 use lib.ListN.{length}
 use borrow.Author.Needs.{needs}
-use Rattle.run.specs.Desk.{SaneAfter}
+use Rattle.run.specs.Desk.{fitted, SaneAfter}
 use Rattle.run.specs.Obeyed.{TextSteps}
-use Rattle.run.proofs.Stepping.{fitted-sane}
-use Rattle.run.proofs.Texting.{text-off, text-barred, text-on, textDesk}
+use Rattle.run.proofs.Stepping.{number-after-is, fitted-sane}
+use Rattle.run.proofs.Texting.{text-off, text-barred, text-on, textDeskAt, textDesk}
 use Rattle.run.proofs.texts.text_step.Statement.{statement}
 use Rattle.run.proofs.texts.text_step.Tie as tie
 use Rattle.run.proofs.texts.text_step.Reads as reads
@@ -24,17 +24,17 @@ enum-told-2 c = search needs
 enum-told-3 : tie.Need-enum-told-3
 enum-told-3 c = search needs
 
+number-after-requires : tie.Need-number-after-requires
+number-after-requires c κs = search needs
+
 put-line-requires : tie.Need-put-line-requires
 put-line-requires c κs = search needs
-
-add-t13 : tie.Need-add-t13
-add-t13 c = search needs
 
 add-t14 : tie.Need-add-t14
 add-t14 c = search needs
 
-add-t12 : tie.Need-add-t12
-add-t12 c = search needs
+add-t15 : tie.Need-add-t15
+add-t15 c = search needs
 
 limited-requires : tie.Need-limited-requires
 limited-requires c κs = search needs
@@ -51,12 +51,14 @@ same-length c = search needs
 returns-3 : tie.Need-returns-3
 returns-3 c =
     let a = c .before .before .before .before .before .before .before .before .before .before .before .before .before .args in
-    let p = c .before .before .before .before .before .before .put-line in
+    let p = c .before .before .before .before .before .put-line in
+    let n = c .before .before .before .before .before .before .before .number-after in
     let pre = c .before .before .before .before .before .before .before .before .before .before .before .before .before .pre in
     let d = textDesk (a .d) (p .result) in
     let same : length (p .last .0) ≡ length (a .w .now) = search needs in
     let high : p .result .hi ≤ length (a .w .now) = p .ensures .0 .0 in
-    let e = c .limited .ensures in (
+    let after : n .result ≡ a .d .next + 1 = n .ensures ∙ number-after-is (a .d .next) (omega (arith, pre .next, pre .cards)) in
+    let e = c .limited .ensures ∙ ap (λ (x : ℕ). fitted (textDeskAt (a .d) (p .result) x)) after in (
       subst (SaneAfter (p .last .0)) (sym e) (fitted-sane (p .last .0) d (omega arith) (same ∙ pre .room) (omega (arith, pre .next)) (omega (arith, pre .yanks)) (omega (arith, pre .low))),
       subst (TextSteps (a .w .now) (a .d) (a .line .now) (p .last .0)) (sym e)
           (text-on (a .w .now) (a .d) (a .line .now) (p .last .0) (p .result) (pre .room) (same ∙ pre .room) high (p .ensures .1) (c .before .before .before .before .before .before .before .before .enum-told3 .given .1)),
@@ -69,10 +71,10 @@ text-step-spec =
     enum-told
     enum-told-2
     enum-told-3
+    number-after-requires
     put-line-requires
-    add-t13
     add-t14
-    add-t12
+    add-t15
     limited-requires
     returns
     returns-2
