@@ -50,7 +50,7 @@ uint64_t galdwist_run(const uint64_t *old, size_t n, const uint8_t *stream, size
 uint64_t galdwist_compile(const uint64_t *image, size_t n, uint8_t *out, size_t room, uint64_t *first, uint64_t *second);
 
 /* The fresh library, on which a creation run is a correction run. 32 where the space is too small. `value`: words written, or 0.
- * keeper/Keeper.antt: freshing, freshInto. */
+ * fresh/Fresh.antt: freshing, freshInto, begunNumber, begunValue. */
 uint64_t galdwist_fresh(uint64_t *space, size_t room, uint64_t *value);
 
 /* The directory, a row of GALDWIST_ROW bytes to an entry, from number 1: the name in 9 columns, left justified; what it is (D a deck, C a

@@ -17,6 +17,17 @@ fn write_number(n: u64, then: &[u8]) {
     io::write_all(STDOUT_FILENO, then);
 }
 
+fn write_blank(n: u64) {
+    write_number(n, b" ");
+}
+
+fn write_numbers(number: u64, first: u64, second: u64, sum: u64) {
+    write_blank(number);
+    write_blank(first);
+    write_blank(second);
+    write_number(sum, b"\n");
+}
+
 fn write_why(op: u8, why: &[u8]) {
     io::write_all(STDOUT_FILENO, b"cases: op ");
     write_number(op as u64, why);
@@ -24,12 +35,7 @@ fn write_why(op: u8, why: &[u8]) {
 
 pub fn write(op: u8, a: Answer) {
     match a {
-        Answer::Numbers(number, first, second, sum) => {
-            write_number(number, b" ");
-            write_number(first, b" ");
-            write_number(second, b" ");
-            write_number(sum, b"\n");
-        }
+        Answer::Numbers(number, first, second, sum) => write_numbers(number, first, second, sum),
         Answer::NotCarried => write_why(op, b" not carried\n"),
         Answer::Beyond => write_why(op, b" beyond the program's arrays\n"),
         Answer::Truncated => write_why(op, b" cut short by the end of the input\n"),

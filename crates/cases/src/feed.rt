@@ -1,10 +1,16 @@
 // Standard input, read 64 KiB at a time.
 ghost use Prim.Native.Nat.{_≤_};
-ghost use lib.ListN.{length};
 use crate::head::Head;
 use crate::space::front_bytes;
 use crate::space::front_words;
 use libc::STDIN_FILENO;
+
+// the lengths of the arrays: what is read at a time, and a case's blobs as words and as bytes
+pub const INPUT: usize = 65536;
+
+pub const WORDS: usize = 65537;
+
+pub const BYTES: usize = 262400;
 
 // What was read and is not yet taken stands from `at` to `end` in the input array. `over`: more was asked for than the input had.
 pub struct Feed {
@@ -21,8 +27,8 @@ pub fn start() -> Feed {
     }
 }
 
-fn more(input: &mut [u8]) -> Feed
-    ensures { λ r. ⌜ r .end ≤ length (now (input .entry)) ⌝ }
+fn more(input: &mut [u8; INPUT]) -> Feed
+    ensures { λ r. ⌜ r .end ≤ 65536 ⌝ }
 {
     let got = libc::read(STDIN_FILENO, input);
     let n = io::count(got, input);
@@ -34,8 +40,8 @@ fn more(input: &mut [u8]) -> Feed
 }
 
 // A feed that has a byte, after a read where there was none left; or one that is over.
-pub fn ready(input: &mut [u8], feed: Feed) -> Feed
-    ensures { λ r. ⌜ r .end ≤ length (now (input .entry)) ⌝ }
+pub fn ready(input: &mut [u8; INPUT], feed: Feed) -> Feed
+    ensures { λ r. ⌜ r .end ≤ 65536 ⌝ }
 {
     if feed.over {
         return Feed {
@@ -53,7 +59,7 @@ pub fn ready(input: &mut [u8], feed: Feed) -> Feed
 }
 
 // Fills `out` from the input.
-pub fn take_bytes(input: &mut [u8], feed: Feed, out: &mut [u8]) -> Feed {
+pub fn take_bytes(input: &mut [u8; INPUT], feed: Feed, out: &mut [u8]) -> Feed {
     let mut f = feed;
     let mut i = 0;
     while i < out.len() {
@@ -70,7 +76,7 @@ pub fn take_bytes(input: &mut [u8], feed: Feed, out: &mut [u8]) -> Feed {
 }
 
 // Fills `out` from the input, eight bytes a word, the lowest first.
-fn take_words(input: &mut [u8], feed: Feed, out: &mut [u64]) -> Feed {
+fn take_words(input: &mut [u8; INPUT], feed: Feed, out: &mut [u64]) -> Feed {
     let mut f = feed;
     let mut i = 0;
     let mut eight = [0u8; 8];
@@ -83,7 +89,7 @@ fn take_words(input: &mut [u8], feed: Feed, out: &mut [u64]) -> Feed {
 }
 
 // Passes over n bytes.
-fn skip(input: &mut [u8], feed: Feed, n: usize) -> Feed {
+fn skip(input: &mut [u8; INPUT], feed: Feed, n: usize) -> Feed {
     let mut f = feed;
     let mut i = 0;
     while i < n {
@@ -99,7 +105,7 @@ fn skip(input: &mut [u8], feed: Feed, n: usize) -> Feed {
 }
 
 // n bytes into the front of `bytes`, or passed over where they do not fit.
-fn load_bytes(input: &mut [u8], feed: Feed, n: usize, bytes: &mut [u8]) -> Feed {
+fn load_bytes(input: &mut [u8; INPUT], feed: Feed, n: usize, bytes: &mut [u8]) -> Feed {
     let k = front_bytes(n, bytes);
     if k < n {
         return skip(input, feed, n);
@@ -108,7 +114,7 @@ fn load_bytes(input: &mut [u8], feed: Feed, n: usize, bytes: &mut [u8]) -> Feed 
 }
 
 // n bytes as words into the front of `words`, or passed over where they do not fit or are no whole words.
-fn load_words(input: &mut [u8], feed: Feed, n: usize, words: &mut [u64]) -> Feed {
+fn load_words(input: &mut [u8; INPUT], feed: Feed, n: usize, words: &mut [u64]) -> Feed {
     let k = front_words(n / 8, words);
     if k * 8 < n {
         return skip(input, feed, n);
@@ -117,7 +123,13 @@ fn load_words(input: &mut [u8], feed: Feed, n: usize, words: &mut [u64]) -> Feed
 }
 
 // A case's two blobs: the first as words where its op reads an image or a text (1, 2, 3, 7), as bytes for any other op; the second, a stream, as bytes.
-pub fn load(input: &mut [u8], feed: Feed, head: Head, words: &mut [u64], bytes: &mut [u8]) -> Feed {
+pub fn load(
+    input: &mut [u8; INPUT],
+    feed: Feed,
+    head: Head,
+    words: &mut [u64; WORDS],
+    bytes: &mut [u8; BYTES],
+) -> Feed {
     let op = head.op;
     match op {
         1 | 2 | 3 | 7 => {

@@ -2,10 +2,10 @@
 ghost use Rattle.io.specs.Counts.{Counts};
 use crate::answer::Answer;
 use crate::space::front_words;
-use crate::space::sum_words;
 use lines::Call;
 use lines::Line;
 use lines::NameStep;
+use sums::sum_words;
 
 const TEXT: u64 = 0;
 
@@ -17,7 +17,10 @@ const NAMES: usize = 64;
 struct Asked {
     kind: u64,
     count: usize,
-    words: [u64; 4],
+    first: u64,
+    second: u64,
+    third: u64,
+    fourth: u64,
 }
 
 fn told(l: Line) -> Asked {
@@ -25,52 +28,82 @@ fn told(l: Line) -> Asked {
         Line::Skipped => Asked {
             kind: 1,
             count: 0,
-            words: [0, 0, 0, 0],
+            first: 0,
+            second: 0,
+            third: 0,
+            fourth: 0,
         },
         Line::Deck(w) => Asked {
             kind: 2,
             count: 1,
-            words: [w, 0, 0, 0],
+            first: w,
+            second: 0,
+            third: 0,
+            fourth: 0,
         },
         Line::Comdeck(w) => Asked {
             kind: 3,
             count: 1,
-            words: [w, 0, 0, 0],
+            first: w,
+            second: 0,
+            third: 0,
+            fourth: 0,
         },
         Line::Ident(w) => Asked {
             kind: 4,
             count: 1,
-            words: [w, 0, 0, 0],
+            first: w,
+            second: 0,
+            third: 0,
+            fourth: 0,
         },
         Line::Insert(c) => Asked {
             kind: 5,
             count: 2,
-            words: [c.name, c.seq, 0, 0],
+            first: c.name,
+            second: c.seq,
+            third: 0,
+            fourth: 0,
         },
         Line::Before(c) => Asked {
             kind: 6,
             count: 2,
-            words: [c.name, c.seq, 0, 0],
+            first: c.name,
+            second: c.seq,
+            third: 0,
+            fourth: 0,
         },
         Line::Delete(a, b) => Asked {
             kind: 7,
             count: 4,
-            words: [a.name, a.seq, b.name, b.seq],
+            first: a.name,
+            second: a.seq,
+            third: b.name,
+            fourth: b.seq,
         },
         Line::Restore(a, b) => Asked {
             kind: 8,
             count: 4,
-            words: [a.name, a.seq, b.name, b.seq],
+            first: a.name,
+            second: a.seq,
+            third: b.name,
+            fourth: b.seq,
         },
         Line::Yank => Asked {
             kind: YANK,
             count: 0,
-            words: [0, 0, 0, 0],
+            first: 0,
+            second: 0,
+            third: 0,
+            fourth: 0,
         },
         _ => Asked {
             kind: TEXT,
             count: 0,
-            words: [0, 0, 0, 0],
+            first: 0,
+            second: 0,
+            third: 0,
+            fourth: 0,
         },
     }
 }
@@ -84,7 +117,7 @@ fn put_names(field: &[u8], names: &mut [u64; NAMES]) -> usize {
     let mut at = 0;
     let mut n = 0;
     while n < NAMES {
-        match lines::next_name(field, at) {
+        match directives::next_name(field, at) {
             NameStep::Name { word, next } => {
                 names[n] = word;
                 at = next;
@@ -118,8 +151,8 @@ fn text(line: &[u8]) -> Answer {
 }
 
 pub fn line(line: &[u8]) -> Answer {
-    let l = lines::directive(line);
-    let number = lines::line_number(l);
+    let l = directives::directive(line);
+    let number = directives::line_number(l);
     if number != 0 {
         return Answer::Numbers(number, 0, 0, 0);
     }
@@ -131,6 +164,5 @@ pub fn line(line: &[u8]) -> Answer {
     if kind == YANK {
         return yank(line);
     }
-    let words = t.words;
-    summed(kind, &words, t.count)
+    summed(kind, &[t.first, t.second, t.third, t.fourth], t.count)
 }

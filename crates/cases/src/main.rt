@@ -12,71 +12,70 @@ mod ops;
 mod space;
 
 use answer::Answer;
+use feed::BYTES;
 use feed::Feed;
-use head::Head;
+use feed::INPUT;
+use feed::WORDS;
+use ops::FILE;
+use ops::LIBRARY;
 
-// The rest of a case: its blobs are read, and it is answered.
-fn answer_one(
-    input: &mut [u8],
+// Reads a case, its head and then its blobs. The feed is over when the input has ended within it.
+fn read(
+    input: &mut [u8; INPUT],
     feed: Feed,
-    head: Head,
-    words: &mut [u64],
-    bytes: &mut [u8],
-    library: &mut [u64],
-    file: &mut [u8],
+    head: &mut [u8; 13],
+    words: &mut [u64; WORDS],
+    bytes: &mut [u8; BYTES],
 ) -> Feed {
-    let past = feed::load(input, feed, head, words, bytes);
-    if past.over {
-        answer::write(head.op, Answer::Truncated);
-        return past;
-    }
-    answer::write(head.op, ops::answer(head, words, bytes, library, file));
-    past
+    let past = feed::take_bytes(input, feed, head);
+    feed::load(input, past, head::read(head), words, bytes)
 }
 
-// Reads a case and answers it. The feed is over when the input has ended, within a case too.
-fn step(
-    input: &mut [u8],
-    feed: Feed,
-    words: &mut [u64],
-    bytes: &mut [u8],
-    library: &mut [u64],
-    file: &mut [u8],
-) -> Feed {
-    let start = feed::ready(input, feed);
-    if start.over {
-        return start;
+// Answers the case that was read.
+fn answer_one(
+    over: bool,
+    head: &[u8; 13],
+    words: &[u64; WORDS],
+    bytes: &[u8; BYTES],
+    library: &mut [u64; LIBRARY],
+    file: &mut [u8; FILE],
+) {
+    let h = head::read(head);
+    if over {
+        answer::write(h.op, Answer::Truncated);
+        return;
     }
-    let mut text = [0u8; 13];
-    let past = feed::take_bytes(input, start, &mut text);
-    answer_one(input, past, head::read(&text), words, bytes, library, file)
+    answer::write(h.op, ops::answer(h, words, bytes, library, file));
 }
 
 // A proved loop has to end, and nothing says that the input does: the turns count down from a number that no run uses up.
 fn answer_all(
-    input: &mut [u8],
-    words: &mut [u64],
-    bytes: &mut [u8],
-    library: &mut [u64],
-    file: &mut [u8],
+    input: &mut [u8; INPUT],
+    words: &mut [u64; WORDS],
+    bytes: &mut [u8; BYTES],
+    library: &mut [u64; LIBRARY],
+    file: &mut [u8; FILE],
 ) {
+    let mut head = [0u8; 13];
     let mut feed = feed::start();
     let mut turns = u64::MAX;
     while turns > 0 {
-        feed = step(input, feed, words, bytes, library, file);
+        feed = feed::ready(input, feed);
         if feed.over {
             return;
         }
+        feed = read(input, feed, &mut head, words, bytes);
+        answer_one(feed.over, &head, words, bytes, library, file);
         turns -= 1;
     }
 }
 
 // The arrays are made once, and lent to every case.
 fn main() {
-    let mut input = [0u8; 65536];
-    let mut words = [0u64; 65537];
-    let mut bytes = [0u8; 262400];
-    let mut library = [0u64; 65536];
-    let mut file = [0u8; 182000];
+    let mut input = [0u8; INPUT];
+    let mut words = [0u64; WORDS];
+    let mut bytes = [0u8; BYTES];
+    let mut library = [0u64; LIBRARY];
+    let mut file = [0u8; FILE];
     answer_all(&mut input, &mut words, &mut bytes, &mut library, &mut file);
 }

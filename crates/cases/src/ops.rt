@@ -2,15 +2,20 @@
 ghost use Rattle.io.specs.Counts.{Counts};
 use crate::answer::Answer;
 use crate::head::Head;
-use crate::space::fill_bytes;
-use crate::space::fill_words;
 use crate::space::front_bytes;
 use crate::space::front_words;
-use crate::space::sum_bytes;
-use crate::space::sum_words;
+use compressing::Compressed;
 use packing::Packing;
-use text::Compressed;
+use sums::fill_bytes;
+use sums::fill_words;
+use sums::sum_bytes;
+use sums::sum_words;
 use text::Expanded;
+
+// the lengths of the arrays whose fronts are the room of a call
+pub const LIBRARY: usize = 65536;
+
+pub const FILE: usize = 182000;
 
 fn packing_answer(p: Packing, room: &[u8]) -> Answer {
     let sum = sum_bytes(room);
@@ -71,13 +76,13 @@ fn compress(head: Head, bytes: &[u8]) -> Answer {
         return Answer::Beyond;
     }
     let mut text = [0u64; 16];
-    let c = text::compress(&bytes[..n], &mut text);
+    let c = compressing::compress(&bytes[..n], &mut text);
     match c {
         Compressed::Words(count) => {
             let k = front_text(count, &text);
             Answer::Numbers(0, count as u64, 0, sum_words(&text[..k]))
         }
-        _ => Answer::Numbers(text::compressed_number(c), 0, 0, 0),
+        _ => Answer::Numbers(compressing::compressed_number(c), 0, 0, 0),
     }
 }
 
@@ -156,8 +161,8 @@ pub fn answer(
     head: Head,
     words: &[u64],
     bytes: &[u8],
-    library: &mut [u64],
-    file: &mut [u8],
+    library: &mut [u64; LIBRARY],
+    file: &mut [u8; FILE],
 ) -> Answer {
     let op = head.op;
     match op {

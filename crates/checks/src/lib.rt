@@ -1,6 +1,6 @@
 // Rows 7 to 10 of the library check, and the check of an image as a whole.
 mod bits;
-mod decks;
+mod deck_cards;
 mod twice;
 mod whole;
 mod yanks;

@@ -49,7 +49,7 @@ fn names_ok(
 {
     let mut at = 0;
     loop {
-        match lines::next_name(field, at) {
+        match directives::next_name(field, at) {
             NameStep::Name { word, next } => {
                 if !name_ok(directory, ways, list, decks, own, word) {
                     return false;
@@ -73,7 +73,7 @@ fn yank_line_ok(
     requires { ⌜ Knows (now list) (now decks) ⌝ }
     ensures { λ r. ⌜ r ≡ okYankLine (now (directory .entry)) (now (list .entry)) own (now (line .entry)) ⌝ }
 {
-    if library::asks_yank(lines::directive(line)) {
+    if library::asks_yank(directives::directive(line)) {
         return names_ok(directory, ways, list, decks, own, lines::field_of(line));
     }
     false

@@ -25,10 +25,12 @@ use Rattle.library.proofs.EntryNames.{is-named}
 use Rattle.library.proofs.WordsFit.{entry-sound}
 use Rattle.library.proofs.CheckEncode.{check-encode}
 use Rattle.library.proofs.CheckSound.{check-sound}
-use Rattle.image.specs.Places.{nextAt, seenAt, titleOf, isTitle, named, deckEnd, rowOf, rowsIn, tableOf}
-use Rattle.image.proofs.Rows.{titleAt, titled, end-here, end-past, rows-here, rows-end, rows-skip, tables-all}
-use Rattle.image.proofs.Written.{inside, next-is, after, some-words, owner-is, seq-is, active-is, line-is, title-is}
-use Rattle.image.proofs.Ending.{stands-first, cards-end, cards-after}
+use Rattle.image.specs.Places.{nextAt, seenAt}
+use Rattle.image.proofs.Written.{inside, next-is, after, some-words, owner-is, seq-is, active-is, line-is}
+use Rattle.decks.specs.Decks.{titleOf, isTitle, named, deckEnd, rowOf, rowsIn, tableOf}
+use Rattle.decks.proofs.Titled.{titleAt, titled, title-is}
+use Rattle.decks.proofs.Rows.{end-here, end-past, rows-here, rows-end, rows-skip, tables-all}
+use Rattle.decks.proofs.Ending.{stands-first, cards-end, cards-after}
 use Rattle.walks.specs.View.{DeckView, shownCard, shown, viewDecks, view}
 use Rattle.walks.specs.TableView.{shownOf, consIf, shownIn, tableView}
 use Rattle.library.specs.declared.Fault.{Fault}

@@ -21,7 +21,7 @@ use Rattle.library.specs.Library.{reserved}
 use Rattle.walks.specs.View.{Shown, DeckView, fullChoice}
 use Rattle.walks.specs.Walk.{printed, Found, missing, notCommon, common, foundIn, lookIn, lookUp, Walk, walked, halted, haltAt, thenOn, Inner, openDeck, atCard, walkCards, called, walkDecks}
 use Rattle.compile.specs.Compile.{ofWalk, fileOf}
-use Rattle.walks.specs.Lines.{lineOf}
+use Rattle.print.specs.Lines.{lineOf}
 use Rattle.walks.specs.declared.Stop.{Stop}
 use Rattle.walks.specs.declared.Stop.the-variants.{NoDeck, NotCommon, Deep, Many, Space}
 use Rattle.compile.specs.declared.Compiled.the-variants.{Done, Refused}
@@ -30,7 +30,7 @@ use Rattle.walks.specs.declared.Walked.the-variants.{On, Halted}
 use Rattle.walks.specs.Steps.{State, state, haltedAt, writeOf, putOf, Callee, openOf, stepOf, runOf, calleeAt, runAt, decksOf}
 use Rattle.walks.specs.Steps as steps
 use Rattle.compile.specs.Answer.{Named, Answers}
-use Rattle.walks.proofs.Printing.{line-long}
+use Rattle.print.proofs.Printing.{line-long}
 
 -- A LINE: of an owner with a name it is the one that is printed
 printed-as : (c : Shown) → Named c → lineOf (c .line) (c .name) (c .seq) ≡ printed c

@@ -3,7 +3,6 @@ use Rattle.words.specs.Display.{codeOf, letter}
 use Rattle.words.specs.Names.{isName, nameWord, nameOf, isNameWord, wordOfName, nameLength, nameInto, isNumber, numberRead, numeral, leftJustified, rightJustified, numberInto}
 use Rattle.packing.specs.Pack.{packing, unpacking, left, packingEights, unpackingEights}
 use Rattle.words.specs.Text.{blanks, wordsOf, textWords, says, isText}
-use Rattle.text.specs.Answers.{compressing, compressInto, expanding, expandInto}
 use Rattle.lines.specs.Directive.{lineOf, afterLine, lines, kindOf, nameOfLine, kindOfLine, field, isClean, isCard, cardOf, asked, directive, yankNames, callOf}
 use Rattle.library.specs.Check.{check}
 use Rattle.library.specs.Image.{cardWords, encode, withinLimits}
@@ -17,5 +16,5 @@ use Rattle.walks.specs.Walk.{printed, lookUp}
 use Rattle.demands.specs.Shown.{AllHold}
 
 pub all-hold : AllHold
-unfolding codeOf letter isName nameWord nameOf isNameWord wordOfName nameLength nameInto isNumber numberRead numeral leftJustified rightJustified numberInto packing unpacking left packingEights unpackingEights blanks wordsOf textWords compressing compressInto says isText expanding expandInto lineOf afterLine lines kindOf nameOfLine kindOfLine field isClean isCard cardOf asked directive yankNames callOf check cardWords encode withinLimits stream entryOf deckNames deckLine active targets yanksOf settledYanks yanked update running find step compiling program view printed lookUp AllHold
+unfolding codeOf letter isName nameWord nameOf isNameWord wordOfName nameLength nameInto isNumber numberRead numeral leftJustified rightJustified numberInto packing unpacking left packingEights unpackingEights blanks wordsOf textWords says isText lineOf afterLine lines kindOf nameOfLine kindOfLine field isClean isCard cardOf asked directive yankNames callOf check cardWords encode withinLimits stream entryOf deckNames deckLine active targets yanksOf settledYanks yanked update running find step compiling program view printed lookUp AllHold
 all-hold = tt

@@ -2,7 +2,8 @@
 ghost use mathlib.Core.Path.{_≡_};
 ghost use lib.ListN.{length};
 ghost use Rattle.naming.specs.Naming.{naming, told, showInto, toldNumber, toldValue};
-ghost use Rattle.keeper.specs.Keeper.{freshing, freshInto, begunNumber, begunValue, listing};
+ghost use Rattle.fresh.specs.Fresh.{freshing, freshInto, begunNumber, begunValue};
+ghost use Rattle.keeper.specs.Keeper.{listing};
 ghost use Rattle.library.specs.Check.{check, checked, checkedNumber, checkedPlace};
 ghost use Rattle.corrections.specs.Run.{running, ran, runInto, ranNumber, ranValue};
 ghost use Rattle.compile.specs.Compile.{compiling, compiled, compileInto, compiledNumber, compiledFirst, compiledSecond};
@@ -86,9 +87,9 @@ pub extern "C" fn galdwist_fresh(space: &mut [u64], value: &mut u64) -> u64
     ensures space { λ _. ⌜ now (space .exit) ≡ freshInto (now (space .entry)) ⌝ }
     ensures value { λ _. ⌜ now (value .exit) ≡ begunValue (freshing (length (now (space .entry)))) ⌝ }
 {
-    let answer = keeper::fresh(space);
-    *value = keeper::begun_value(answer);
-    keeper::begun_number(answer)
+    let answer = fresh::fresh(space);
+    *value = fresh::begun_value(answer);
+    fresh::begun_number(answer)
 }
 
 // The directory, a row of 11 bytes for each entry: the count of entries, or the place of the fault, or 0.

@@ -10,7 +10,7 @@ use words::TEN;
 use words::TOP;
 
 // the most words and columns of a text
-pub const WORDS: usize = 16;
+const WORDS: usize = 16;
 
 pub const COLUMNS: usize = 80;
 

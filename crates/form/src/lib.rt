@@ -2,5 +2,4 @@
 mod form;
 
 pub use form::COLUMNS;
-pub use form::WORDS;
 pub use form::is_text;

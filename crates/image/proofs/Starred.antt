@@ -1,6 +1,5 @@
 -- Which lines may begin with a star, by their first word alone. Assumes nothing.
 --   line-starless     a line whose first word has another code first does not
---   deck-starless     nor is it a deck card's
 use Prim.Native.Nat.{ℕ, zero, suc, _+_, _-_, _/_, _%_, _^_, _<_}
 use native.Mathlib.Omega.{arith}
 use mathlib.Core.Path.{_≡_, refl, sym, ap, _∙_}
@@ -14,10 +13,7 @@ use Rattle.words.specs.Display.{codeOf, letter, star}
 use Rattle.words.specs.Text.{lowCodes, allCodes, pair, columnsOf, says, isText}
 use Rattle.words.proofs.Charted.{code-letter}
 use Rattle.words.proofs.Reading.{word-at}
-use Rattle.lines.specs.Directive.{starts, kindOfLine}
-use Rattle.library.specs.Library.{deckLine}
-use Rattle.library.specs.Asked.{deckLineOf}
-use Rattle.library.specs.declared.DeckLine.the-variants.{NotDeck}
+use Rattle.lines.specs.Directive.{starts}
 use Rattle.image.specs.Places.{textOf, lineIn, starAt}
 
 -- THE FIRST COLUMN of what codes stand for
@@ -71,8 +67,3 @@ line-starless ws from to none = go (leb to (length ws))
     go : (b : Bool) → starts star (if b then textOf (take (to - from) (drop from ws)) else []) ≡ false
     go true = text-starless (take (to - from) (drop from ws)) (part-starless (to - from) (drop from ws) other)
     go false = refl
-
--- A DECK CARD
-pub deck-starless : (ws : List ℕ) (from to : ℕ) → starAt ws from ≡ false → NotDeck ≡ deckLineOf (deckLine (lineIn ws from to))
-unfolding deckLine kindOfLine
-deck-starless ws from to none = rw (line-starless ws from to none)

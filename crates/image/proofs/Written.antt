@@ -1,6 +1,6 @@
 -- What stands at a place where the words of a sound card stand. Assumes nothing.
 --   inside, next-is, after, some-words                     its words
---   owner-is, seq-is, active-is, line-is, title-is         what is seen of it
+--   owner-is, seq-is, active-is, line-is                   what is seen of it
 --   low, raw-is                                            its bytes
 use Prim.Native.Nat.{ℕ, suc, _+_, _-_, _*_, _/_, _%_, _^_, _≤_, _<_}
 use native.Mathlib.Omega.{arith}
@@ -19,7 +19,7 @@ use Rattle.words.specs.Text.{trim, textWords, says}
 use Rattle.words.proofs.Tests.{T-true, same-eq}
 use Rattle.words.proofs.TextTrip.{says-written, written-is-text, written-fits}
 use Rattle.library.specs.Each.{Each}
-use Rattle.library.specs.Library.{Byte, Card, deckLine, history}
+use Rattle.library.specs.Library.{Byte, Card, history}
 use Rattle.library.specs.Yanks.{active}
 use Rattle.library.specs.Image.{bit, byteBits, cardWords}
 use Rattle.library.specs.Check.{isLastWord, rawBytes, used, Fields, fieldsOf}
@@ -29,9 +29,8 @@ use Rattle.library.proofs.EntryNames.{is-named}
 use Rattle.library.proofs.BytesBack.{Low, number-back, raw-bytes}
 use Rattle.library.proofs.FieldsBack.{Raw, count-back, head-end, fields-back}
 use Rattle.library.proofs.ReadBack.{LineSays, rawOf, headOf}
-use Rattle.image.specs.Places.{textFrom, textAt, nextAt, seenAt, textOf, lineIn, titleOf, titleIn}
+use Rattle.image.specs.Places.{textFrom, textAt, nextAt, seenAt, textOf, lineIn}
 use Rattle.image.proofs.Standing.{text-at, next-inside}
-use Rattle.image.proofs.Rows.{titleAt}
 
 -- WHERE THE TEXT STARTS, by the place of the first word with bit 59
 text-place : (n a k : ℕ) (xs : List ℕ) → placeFrom isLastWord (suc n) xs ≡ some k → textFrom a xs + n ≡ a + k
@@ -154,10 +153,6 @@ module _ (directory ws : List ℕ) (entries : length directory ≤ 1023) where
         let t : take (nextAt ws at - textAt ws at) (drop (textAt ws at) ws) ≡ text = (λ i. take (n i) (d i)) ∙ take-at text rest (length text) refl in
         ap (λ (x : Bool). if x then textOf (take (nextAt ws at - textAt ws at) (drop (textAt ws at) ws)) else []) (le-leb (nextAt ws at) (length ws) (next-inside ws at inside .1))
         ∙ ap textOf t ∙ ap (λ (x : Bool). if x then says text else []) (written-is-text (c .line) (line .charted) (line .short)) ∙ says-written (c .line) (line .charted) ∙ line .trimmed
-
-    pub title-is : titleAt ws at ≡ titleOf (deckLine (c .line))
-    unfolding titleIn
-    title-is = ap (λ (l : List ℕ). titleOf (deckLine l)) line-is
 
     pub raw-is : used (rawBytes (take (textAt ws at - at) (drop at ws))) ≡ rawOf yk c
     raw-is =

@@ -23,9 +23,9 @@ use Rattle.library.proofs.CheckEncode.{check-encode}
 use Rattle.tables.specs.Found.{Tabled}
 use Rattle.tables.proofs.Tabling.{tabled}
 use Rattle.yanked.specs.Bytes.{part, flagged}
-use Rattle.image.specs.Places.{deckEnd}
+use Rattle.decks.specs.Decks.{deckEnd}
 use Rattle.yanked.specs.Flags.{settledFlags}
-use Rattle.yanked.proofs.Encoded.{yanks-part}
+use Rattle.keeper.proofs.Encoded.{yanks-part}
 use Rattle.yanked.proofs.Yanking.{settled-yanked}
 use Rattle.checks.specs.Walks.{Spans}
 use Rattle.checks.proofs.Walking.{read-walks}

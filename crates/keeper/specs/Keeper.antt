@@ -1,41 +1,18 @@
--- What the keeper of libraries is shown (01, "The libraries we read and write", "When a card is active"; row 32).
---   the fresh library   freshing, freshInto, begunNumber, begunValue
---   an entry            deckByte, deckKind, kindOf, yankMark, rowOf, rowsOf
---   what is shown       listed, listing
+-- What the keeper of libraries is shown (01, "The libraries we read and write", "When a card is active").
+--   an entry         deckByte, deckKind, kindOf, yankMark, rowOf, rowsOf
+--   what is shown    listed, listing
 use Prim.Native.Nat.{ℕ, zero, suc}
 use mathlib.Core.Bool.{Bool, true, false}
 use mathlib.Core.List.{List, [], _∷_, _++_}
-use lib.Dec.{eqb, ltb}
-use lib.ListN.{length, drop}
+use lib.Dec.{eqb}
+use lib.ListN.{length}
 use Rattle.words.specs.Base.{if_then_else_}
 use Rattle.words.specs.Display.{blank}
 use Rattle.words.specs.Names.{leftJustified}
-use Rattle.library.specs.Library.{Deck, Library, fresh, purged, nameAt}
+use Rattle.library.specs.Library.{Deck, Library, purged, nameAt}
 use Rattle.library.specs.Yanks.{yanked}
-use Rattle.library.specs.Image.{encode}
 use Rattle.library.specs.Check.{check}
 use Rattle.naming.specs.Naming.{entryName, Showing, inSpace, ofChecked}
-use Rattle.keeper.specs.declared.Begun.{Begun}
-use Rattle.keeper.specs.declared.Begun.the-variants.{Done as Written, Space as NoRoom}
-
--- THE FRESH LIBRARY: "three words: the header, 00000000000000000001, 31011613535353000000"; "new library longer than the lent space" is 32
-unfoldable pub freshing : ℕ → Begun
-freshing room = if ltb room (length (encode fresh)) then NoRoom else Written (length (encode fresh))
-
-abbrev pub begunInto : Begun → List ℕ → List ℕ
-begunInto (Written n) space = encode fresh ++ drop n space
-begunInto NoRoom space = space
-
-abbrev pub freshInto : List ℕ → List ℕ
-freshInto space = begunInto (freshing (length space)) space
-
-abbrev pub begunNumber : Begun → ℕ
-begunNumber (Written n) = 0
-begunNumber NoRoom = 32
-
-abbrev pub begunValue : Begun → ℕ
-begunValue (Written n) = n
-begunValue NoRoom = 0
 
 -- AN ENTRY: what it is, D a normal deck, C a common deck, S a set, P purged
 abbrev pub deckByte : Bool → ℕ

@@ -7,7 +7,7 @@ ghost use lib.ListN.{length, drop};
 ghost use Rattle.library.specs.Check.{directoryCount, directoryOf};
 ghost use Rattle.tables.specs.Found.{Sized, Tabled};
 ghost use Rattle.yanked.specs.Bytes.{part};
-ghost use Rattle.image.specs.Places.{deckEnd};
+ghost use Rattle.decks.specs.Decks.{deckEnd};
 ghost use Rattle.yanked.specs.Flags.{settledFlags};
 ghost use Rattle.naming.specs.Naming.{told, showInto};
 ghost use Rattle.naming.specs.Parts.{AnswersOf};
@@ -101,7 +101,7 @@ fn put_flags(image: &[u64], directory: &[u64], from: usize, flags: &mut [u64])
     requires { ⌜ from ≤ length (now image) ⌝ }
     ensures { λ _. ⌜ now (flags .exit) ≡ settledFlags (now (directory .entry)) (part from (deckEnd (now (image .entry)) from) (now (image .entry))) (length (now (flags .entry))) ⌝ }
 {
-    let end = image::deck_end(image, from);
+    let end = decks::deck_end(image, from);
     yanked::settle(directory, &image[from..end], flags);
 }
 
@@ -114,7 +114,7 @@ fn put_directory(image: &[u64], directory: &[u64], rows: &mut [u8])
 {
     let mut kinds = [SET; ENTRIES];
     let mut flags = [0u64; ENTRIES];
-    let from = image::cards_place(image);
+    let from = decks::cards_place(image);
     put_kinds(image, from, &mut kinds);
     put_flags(image, directory, from, &mut flags);
     put_rows(directory, &kinds, &flags, rows);

@@ -32,7 +32,7 @@ pub(crate) fn put_kinds(image: &[u64], from: usize, kinds: &mut [u8])
     while at < image.len() {
         let c = image::see(image, at);
         let next = c.next;
-        put_kind(kinds, c.owner, image::deck_at(image, c.text, next));
+        put_kind(kinds, c.owner, decks::deck_at(image, c.text, next));
         at = next;
     }
 }

@@ -1,41 +1,5 @@
-// What the keeper of libraries is shown: the fresh library, a directory. (The name of a card: `naming`.)
-ghost use mathlib.Core.Path.{_≡_};
-ghost use Rattle.keeper.specs.Keeper.{begunNumber, begunValue};
-
+// What the keeper of libraries is shown: a directory. (The name of a card: `naming`; the fresh library: `fresh`.)
 mod entry_rows;
 mod kinds;
-mod start;
 
 pub use entry_rows::directory;
-pub use start::fresh;
-
-// 01's rows
-const DONE: u64 = 0;
-
-const LONGER: u64 = 32;
-
-// What writing the fresh library answers: the words written, or that it is longer than the space.
-pub enum Begun {
-    Done(usize),
-    Space,
-}
-
-// 01's number of an answer; 0 where the library was written.
-pub fn begun_number(b: Begun) -> u64
-    ensures { λ r. ⌜ r ≡ begunNumber b ⌝ }
-{
-    match b {
-        Begun::Done(_) => DONE,
-        Begun::Space => LONGER,
-    }
-}
-
-// The words written, or 0.
-pub fn begun_value(b: Begun) -> u64
-    ensures { λ r. ⌜ r ≡ begunValue b ⌝ }
-{
-    match b {
-        Begun::Done(n) => n as u64,
-        Begun::Space => 0,
-    }
-}

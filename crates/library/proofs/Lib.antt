@@ -31,4 +31,3 @@ pub mod Inserted
 pub mod Directories
 pub mod GrownStream
 pub mod Searching
-pub mod Asking

@@ -2,13 +2,12 @@
 ghost use mathlib.Core.Path.{_≡_};
 ghost use Rattle.library.specs.Check.{faultNumber, checkedNumber, checkedPlace};
 
+mod asks;
 mod fixed;
-mod titles;
 
+pub use asks::asks_yank;
 pub use fixed::header_word;
 pub use fixed::reserved_word;
-pub use titles::asks_yank;
-pub use titles::deck_line;
 
 // Why an image is no library: 01's rows 1 to 10.
 pub enum Fault {

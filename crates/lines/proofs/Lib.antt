@@ -1,4 +1,3 @@
-pub mod Asking
 pub mod Calling
 pub mod Cutting
 pub mod Fields

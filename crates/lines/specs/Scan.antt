@@ -5,8 +5,8 @@ use mathlib.Core.Bool.{Bool, not}
 use lib.Dec.{eqb}
 use Rattle.words.specs.Display.{blank, point}
 use Rattle.lines.specs.Directive.{isEnd, endsName, parts}
-use Rattle.lines.specs.declared.scan.Stop.{Stop}
-use Rattle.lines.specs.declared.scan.Stop.the-variants.{Line, Name, Parameter, Blank, NonBlank, Point}
+use Rattle.lines.specs.declared.Stop.{Stop}
+use Rattle.lines.specs.declared.Stop.the-variants.{Line, Name, Parameter, Blank, NonBlank, Point}
 
 abbrev pub stopsAt : Stop → ℕ → Bool
 stopsAt Line b = isEnd b

@@ -1,17 +1,16 @@
-// Lines and directives: from bytes to what a line asks.
-mod asks;
+// Lines and their parts: from bytes to a directive's name and parameters.
+mod calls;
 mod kinds;
-mod names;
 mod parts;
 mod scan;
 mod stream;
 
-pub use asks::call_of;
-pub use asks::directive;
-pub use asks::line_number;
+pub use calls::call_of;
 pub use kinds::kind_of_line;
-pub use names::next_name;
 pub use parts::field_of;
+pub use parts::is_clean;
+pub use scan::part_after;
+pub use scan::part_at;
 pub use stream::line_at;
 
 // What a directive's name asks for.
@@ -68,4 +67,20 @@ pub enum Call {
 pub enum NameStep {
     Name { word: u64, next: usize },
     End,
+}
+
+// What a search stops at.
+pub enum Stop {
+    // a line's end
+    Line,
+    // what ends a directive's name
+    Name,
+    // what parts parameters
+    Parameter,
+    // what ends parameters
+    Blank,
+    // the end of a run of blanks
+    NonBlank,
+    // what parts a card's name and its number
+    Point,
 }

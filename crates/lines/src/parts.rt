@@ -3,8 +3,8 @@ ghost use mathlib.Core.Path.{_≡_};
 ghost use Prim.Native.Nat.{_≤_};
 ghost use lib.ListN.{length, drop};
 ghost use Rattle.lines.specs.Directive.{starts, nameOfLine, afterName, field, isClean};
+use crate::Stop;
 use crate::scan::COMMA;
-use crate::scan::Stop;
 use crate::scan::part_at;
 use crate::scan::place_of;
 
@@ -56,7 +56,7 @@ pub fn field_of(line: &[u8]) -> &[u8]
 }
 
 // Whether only blanks follow the parameters.
-pub(crate) fn is_clean(line: &[u8]) -> bool
+pub fn is_clean(line: &[u8]) -> bool
     ensures { λ r. ⌜ r ≡ isClean (now (line .entry)) ⌝ }
 {
     let at = field_start(line);

@@ -6,6 +6,7 @@ ghost use lib.ListN.{length, drop};
 ghost use Rattle.words.specs.Base.{any, same, takeUntil, beyond, split};
 ghost use Rattle.words.specs.Display.{blank};
 ghost use Rattle.lines.specs.Scan.{stopsAt};
+use crate::Stop;
 
 const NEWLINE: u8 = 10;
 
@@ -14,22 +15,6 @@ const BLANK: u8 = b' ';
 pub(crate) const COMMA: u8 = b',';
 
 const POINT: u8 = b'.';
-
-// What a search stops at.
-pub(crate) enum Stop {
-    // a line's end
-    Line,
-    // what ends a directive's name
-    Name,
-    // what parts parameters
-    Parameter,
-    // what ends parameters
-    Blank,
-    // the end of a run of blanks
-    NonBlank,
-    // what parts a card's name and its number
-    Point,
-}
 
 fn stops(stop: Stop, b: u8) -> bool
     ensures { λ r. ⌜ r ≡ stopsAt stop b ⌝ }
@@ -61,7 +46,7 @@ pub(crate) fn place_of(s: &[u8], at: usize, stop: Stop) -> usize
 }
 
 // What stands from `at` up to where the search stops; past the end nothing.
-pub(crate) fn part_at(s: &[u8], at: usize, stop: Stop) -> &[u8]
+pub fn part_at(s: &[u8], at: usize, stop: Stop) -> &[u8]
     ensures { λ r. ⌜ now r ≡ takeUntil (stopsAt stop) (drop at (now (s .entry))) ⌝ }
 {
     if s.len() < at {
@@ -72,7 +57,7 @@ pub(crate) fn part_at(s: &[u8], at: usize, stop: Stop) -> &[u8]
 }
 
 // What stands after the first byte where the search stops, or nothing.
-pub(crate) fn part_after(s: &[u8], stop: Stop) -> &[u8]
+pub fn part_after(s: &[u8], stop: Stop) -> &[u8]
     ensures { λ r. ⌜ now r ≡ beyond (stopsAt stop) (now (s .entry)) ⌝ }
 {
     let e = place_of(s, 0, stop);

@@ -2,7 +2,7 @@
 ghost use mathlib.Core.Path.{_≡_};
 ghost use lib.ListN.{drop};
 ghost use Rattle.lines.specs.Directive.{lineOf};
-use crate::scan::Stop;
+use crate::Stop;
 use crate::scan::part_at;
 
 // The line that starts at `at`, a part of the stream; past the stream's end the empty line.

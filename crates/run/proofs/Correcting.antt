@@ -23,7 +23,7 @@ use Rattle.run.specs.GapWords.{Ordered}
 use Rattle.run.specs.CardSeek.{indexOf}
 use Rattle.settling.specs.SettledBits.{flagged}
 use Rattle.run.specs.Work.{Work, Stands, Located, Locates, OpensAfter, OpensAhead}
-use Rattle.run.specs.Desk.{Sane, SaneAfter, TextGoes, Tables, Held, Answered}
+use Rattle.run.specs.Desk.{Sane, SaneAfter, movedDesk, TextGoes, Tables, Held, Answered}
 use Rattle.run.specs.Corrected.{titled, SoughtAt, SoughtAs, SeeksCard, InsertSteps, BeforeSteps}
 use Rattle.run.specs.declared.gap.Gap.{Gap}
 use Rattle.run.specs.declared.seek.Place.{Place}
@@ -103,10 +103,6 @@ place-ahead l (suc k) (suc i) n h e f q =
     (subst (λ (x : ℕ). TextGoes l n TextGap (inDeck k x)) j (ahead-place (l .decks) k i h, omega (arith, q)))
 
 -- THE GAP MOVED: the state with text at the gap
-abbrev pub movedDesk : Desk → Gap → ℕ → Desk
-movedDesk d h n =
-    record { gap = h; low = n; entries = d .entries; decks = d .decks; cards = d .cards; yanks = d .yanks; lead = d .lead; set = d .set; next = d .next; place = TextGap }
-
 pub moved-sane : (w v : List ℕ) (d : Desk) (h : Gap) (n : ℕ) → Sane w d → length v ≡ length w → Ordered w h → n ≤ d .cards → Sane v (movedDesk d h n)
 moved-sane w v d h n sane same o few =
     record {

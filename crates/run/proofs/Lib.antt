@@ -1,3 +1,4 @@
+pub mod Sums
 pub mod Heads
 pub mod Seeing
 pub mod Walking

@@ -4,9 +4,10 @@ use native.Mathlib.Omega.{arith}
 use mathlib.Core.Path.{_≡_, refl, sym, ap, ap₂, _∙_, subst, fun-ext}
 use mathlib.Core.Bool.{Bool, true, false, _&&_, not}
 use mathlib.Core.List.{List, [], _∷_, _++_, map}
-use lib.Dec.{T, eqb}
-use lib.ListN.{length, take, drop, length-append, length-drop, take-append-drop}
+use lib.Dec.{T, eqb, leb}
+use lib.ListN.{length, take, drop, length-append, length-drop}
 use lib.Seq.{length-take-le}
+use borrow.Author.Tests.{leb-true, leb-false}
 use Rattle.words.specs.Base.{if_then_else_, any, all}
 use Rattle.words.proofs.Tests.{true-T}
 use Rattle.lines.specs.declared.CardName.{CardName}
@@ -19,10 +20,10 @@ use Rattle.corrections.specs.Flat.{indexBy, ahead, Stood, flat, deckNumbers, is
 use Rattle.run.specs.GapWords.{Ordered}
 use Rattle.run.specs.CardSeek.{indexOf}
 use Rattle.run.specs.ByteMarks.{markOne, markAll}
-use Rattle.run.specs.Work.{Work, Stands, OpensAhead, within, rangeOf, MarkedBetween, MarksBetween}
-use Rattle.run.specs.Desk.{fitted, Sane, TextGoes, Held, Answered}
+use Rattle.run.specs.Work.{Work, OpensAhead, within, MarksTo, rangeOf, MarkedBetween}
+use Rattle.run.specs.Desk.{fitted, Sane, movedDesk, TextGoes, Held, Answered}
 use Rattle.run.specs.Corrected.{SoughtAt}
-use Rattle.run.specs.RangeSteps.{isTitle, HasTitle, Remarked, YankMarks, MarksFound}
+use Rattle.run.specs.RangeSteps.{isTitle, HasTitle, Remarked, YankMarks, GoesOn, MarksFound}
 use Rattle.run.specs.declared.gap.Gap.{Gap}
 use Rattle.run.specs.declared.marks.Marked.{Marked}
 use Rattle.run.specs.declared.marks.Marked.the-variants.{Done, NoCard as NoneMarked, Limit as OverLimit}
@@ -34,6 +35,7 @@ use Rattle.run.specs.declared.fixes.Sought.{Sought}
 use Rattle.corrections.specs.declared.Why.the-variants.{Barred, NoCard, Limit}
 use Rattle.run.proofs.Locating.{run-above}
 use Rattle.run.proofs.Working.{and-true}
+use Rattle.run.proofs.Between.{marks-between}
 use Rattle.run.proofs.RangeCards.{range-stream, marks-count}
 use Rattle.run.proofs.OverLimits.{within-limit}
 use Rattle.corrections.proofs.FlatFind.{yank-part-flat, ltb-yes, ltb-no}
@@ -43,7 +45,6 @@ use Rattle.corrections.proofs.FlatFlags.{unit-free}
 use Rattle.corrections.proofs.FlatLimits.{words-under, within-small, range-cards, range-short}
 use Rattle.run.proofs.Stepping.{work-words, Counted, limited-answer}
 use Rattle.run.proofs.Texting.{begun-pos}
-use Rattle.run.proofs.Correcting.{movedDesk}
 use Rattle.run.proofs.MarkedParts.{mark-tables, mark-yanks, mark-same-yanks, mark-same-flags, mark-place, mark-same-decks, unbarred, index-order, spot-below}
 
 index-named : (o s : ℕ) (cs : List Card) → indexOf o s cs ≡ indexBy (isNamed o s) cs
@@ -55,16 +56,6 @@ index-named o s (c ∷ cs) = ap (λ (n : ℕ). if isNamed o s c then 0 else suc 
 pub same-sane : (w v : List ℕ) (d : Desk) → Sane w d → length v ≡ length w → Sane v d
 same-sane w v d sane e =
     record { ordered = (sane .ordered .0, omega (arith, sane .ordered .1, e)); room = e ∙ sane .room; entries = sane .entries; decks = sane .decks; cards = sane .cards; next = sane .next; yanks = sane .yanks; low = sane .low }
-
--- the card that the gap stands directly ahead of
-gap-stands : (h : Gap) (yk : ℕ → Bool) (cs1 cs2 : List Card) (i : ℕ) → length cs1 ≡ i → Stands h yk cs1 cs2 i (h .hi)
-gap-stands h yk cs1 cs2 i e = record {
-  below = λ lt. absurd (omega (arith, e));
-  above = λ le.
-      let z : i - length cs1 ≡ 0 = omega (arith, e) in
-      let q : length (cardsWords yk (take (i - length cs1) cs2)) ≡ 0 = ap (λ (k : ℕ). length (cardsWords yk (take k cs2))) z in
-      omega arith;
-}
 
 -- the words of YANK$$$ and those of the decks
 stream-words : (yk : ℕ → Bool) (l : Library) → length (cardsWords yk (stream l)) ≡ length (cardsWords yk (l .yanks)) + length (cardsWords yk (joined (map deckCards (l .decks))))
@@ -102,9 +93,6 @@ module _ (w dir decks flags : List ℕ) (d : Desk) (was : ℕ) (f q : Sought) (s
   ahead-work : Work u h yk (take i cs) (drop i cs)
   ahead-work = opens yk (held .below) (held .above) i (held .work) (sa .stands) (omega (arith, last-below, count, le))
 
-  ahead-length : length (take i cs) ≡ i
-  ahead-length = length-take-le i cs (omega (arith, last-below, count, le))
-
   in-order : flat l a ≤ flat l b
   in-order = let e : flat l a ≡ i = sa .index in let g : flat l b ≡ j = sb .index in omega (arith, le)
 
@@ -126,7 +114,7 @@ module _ (w dir decks flags : List ℕ) (d : Desk) (was : ℕ) (f q : Sought) (s
       subst (λ (x : Step). Answered v dir names decks newFlags (SteppedOff Barred) x)
       (sym (obeyed ∙ ap (λ (x : Bool). refuse x Barred (limited (afterMark s (eqb was 1) a b))) (barred-is true titles))) refl
 
-  module _ (titles : HasTitle u decks (h .hi) (j - i + 1) false) (v : List ℕ) (r : Marked) (full : length v ≡ length w) (marked : MarksBetween u h (h .hi) (q .own) seq was (d .entries) v r) where
+  module _ (titles : HasTitle u decks (h .hi) (j - i + 1) false) (v : List ℕ) (r : Marked) (full : length v ≡ length w) (marked : MarksTo u h (q .own) seq was (d .entries) v r) where
     abbrev t : State
     t = afterMark s (eqb was 1) a b
 
@@ -152,9 +140,6 @@ module _ (w dir decks flags : List ℕ) (d : Desk) (was : ℕ) (f q : Sought) (s
         ∙ ap₂ (λ (x y : ℕ). overRange (marks l (eqb was 1)) x y (stream l)) (sa .index) (sb .index)
         ∙ sym (range-stream yk was (unitNumber l) i j (stream l) le)
 
-    joined-is : take i cs ++ drop i cs ≡ stream l
-    joined-is = take-append-drop i cs ∙ held .whole
-
     last-index : indexOf (q .own) seq (stream l) ≡ j
     last-index = index-named (q .own) seq (stream l) ∙ ap (λ (k : ℕ). indexBy (isNamed (q .own) k) (stream l)) sq ∙ sym (sb .first)
 
@@ -163,14 +148,13 @@ module _ (w dir decks flags : List ℕ) (d : Desk) (was : ℕ) (f q : Sought) (s
 
     found : MarkedBetween u yk (stream l) i j was (unitNumber l) v r
     found =
-        let e : indexOf (q .own) seq (take i cs ++ drop i cs) ≡ j = ap (indexOf (q .own) seq) joined-is ∙ last-index in
-        let m : length (take i cs ++ drop i cs) ≡ length (stream l) = ap length joined-is in
-        let z : MarkedBetween u yk (take i cs ++ drop i cs) i (indexOf (q .own) seq (take i cs ++ drop i cs)) was (d .entries) v r =
-        marked yk (take i cs) (drop i cs) i ahead-work (gap-stands h yk (take i cs) (drop i cs) i ahead-length) (omega (arith, le)) (omega (arith, last-below))
+        let e : indexOf (q .own) seq cs ≡ j = ap (indexOf (q .own) seq) (held .whole) ∙ last-index in
+        let z : MarkedBetween u yk cs i (indexOf (q .own) seq cs) was (d .entries) v r =
+        marks-between u h (q .own) seq was (d .entries) v r marked yk cs i ahead-work (omega (arith, le, e)) (omega (arith, last-below, count, e))
         (ap yk numbered ∙ unit-free l (held .safe .sound)) (omega (arith, numbered, begun-pos l (s .next) (held .safe .set set))) in
         subst (λ (n : ℕ). MarkedBetween u yk (stream l) i j was n v r) numbered
         (subst (λ (k : ℕ). MarkedBetween u yk (stream l) i k was (d .entries) v r) last-index
-        (subst (λ (x : List Card). MarkedBetween u yk x i (indexOf (q .own) seq x) was (d .entries) v r) joined-is z))
+        (subst (λ (x : List Card). MarkedBetween u yk x i (indexOf (q .own) seq x) was (d .entries) v r) (held .whole) z))
 
     abbrev inside : Bool
     inside = within (length u) yk (take i (stream l)) mk na
@@ -329,7 +313,7 @@ module _ (w dir decks flags : List ℕ) (d : Desk) (was : ℕ) (f q : Sought) (s
   found-barred titles v newFlags names line s pn qn a b held set sq sa sb obeyed =
       range-barred w dir decks flags d was f q seq sane le u h half order opens names line s pn qn a b held set sq sa sb obeyed titles v newFlags
 
-  module _ (titles : HasTitle u decks (h .hi) (q .index - f .index + 1) false) (v : List ℕ) (r : Marked) (full : length v ≡ length w) (marked : MarksBetween u h (h .hi) (q .own) seq was (d .entries) v r) where
+  module _ (titles : HasTitle u decks (h .hi) (q .index - f .index + 1) false) (v : List ℕ) (r : Marked) (full : length v ≡ length w) (marked : MarksTo u h (q .own) seq was (d .entries) v r) where
     pub found-over : r ≡ OverLimit → (newFlags : List ℕ) → MarksFound w dir decks flags d was f q seq v newFlags (SteppedOff Limit)
     found-over e newFlags names line s pn qn a b held set sq sa sb obeyed =
         range-over w dir decks flags d was f q seq sane le u h half order opens names line s pn qn a b held set sq sa sb obeyed titles v r full marked e newFlags
@@ -338,11 +322,17 @@ module _ (w dir decks flags : List ℕ) (d : Desk) (was : ℕ) (f q : Sought) (s
     found-missed e newFlags names line s pn qn a b held set sq sa sb obeyed =
         range-missed w dir decks flags d was f q seq sane le u h half order opens names line s pn qn a b held set sq sa sb obeyed titles v r full marked e newFlags
 
-    pub found-decks : (k : Gap) → r ≡ Done k → Ordered u k → d .yanks ≤ f .index → MarksFound w dir decks flags d was f q seq v flags (fitted (movedDesk d k (q .index + 1)))
-    found-decks k done ordered deck names line s pn qn a b held set sq sa sb obeyed =
-        range-decks w dir decks flags d was f q seq sane le u h half order opens names line s pn qn a b held set sq sa sb obeyed titles v r full marked k done ordered deck
-
-    pub found-yanks : (k : Gap) → r ≡ Done k → Ordered u k → f .index < d .yanks → (x newFlags : List ℕ) (e : Stepped) → YankMarks v dir d k x newFlags e
+    pub found-done : (k : Gap) → r ≡ Done k → Ordered u k → (x newFlags : List ℕ) (e : Stepped) → GoesOn v dir flags d (f .index) (q .index) k x newFlags e
         → MarksFound w dir decks flags d was f q seq x newFlags e
-    found-yanks k done ordered yank x newFlags e goes-on names line s pn qn a b held set sq sa sb obeyed =
-        range-yanks w dir decks flags d was f q seq sane le u h half order opens names line s pn qn a b held set sq sa sb obeyed titles v r full marked k done ordered yank x newFlags e goes-on
+    found-done k done ordered x newFlags e on names line s pn qn a b held set sq sa sb obeyed = go (leb (d .yanks) (f .index)) refl
+      where
+        go : (y : Bool) → leb (d .yanks) (f .index) ≡ y → Answered x dir names decks newFlags e (step s line)
+        go true y =
+            let z = on .decks (leb-true (d .yanks) (f .index) y) in
+            subst (λ (m : List ℕ). Answered m dir names decks newFlags e (step s line)) (sym (z .0))
+            (subst (λ (m : List ℕ). Answered v dir names decks m e (step s line)) (sym (z .1 .0))
+            (subst (λ (m : Stepped). Answered v dir names decks flags m (step s line)) (sym (z .1 .1))
+            (range-decks w dir decks flags d was f q seq sane le u h half order opens names line s pn qn a b held set sq sa sb obeyed titles v r full marked k done ordered (leb-true (d .yanks) (f .index) y))))
+        go false y =
+            let lt : f .index < d .yanks = leb-false (d .yanks) (f .index) y in
+            range-yanks w dir decks flags d was f q seq sane le u h half order opens names line s pn qn a b held set sq sa sb obeyed titles v r full marked k done ordered lt x newFlags e (on .yanks lt)

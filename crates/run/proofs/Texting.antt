@@ -11,9 +11,9 @@ use lib.Seq.{take-append-seam, drop-append-seam, take-at, append-snoc}
 use Rattle.words.specs.Base.{if_then_else_, all, member}
 use Rattle.words.specs.Display.{inChart}
 use Rattle.words.specs.Text.{trim, textWords}
-use Rattle.text.specs.Answers.{compressing, compressInto}
-use Rattle.text.specs.declared.Compressed.{Compressed}
-use Rattle.text.specs.declared.Compressed.the-variants.{Words, Outside as OutsideSet, Long as TooLong}
+use Rattle.compressing.specs.Answers.{compressing, compressInto}
+use Rattle.compressing.specs.declared.Compressed.{Compressed}
+use Rattle.compressing.specs.declared.Compressed.the-variants.{Words, Outside as OutsideSet, Long as TooLong}
 use Rattle.words.proofs.TextTrip.{trimmed-the-same, written-fits}
 use Rattle.lines.specs.Directive.{directive, lineNumber}
 use Rattle.lines.specs.declared.Line.the-variants.{Text}

@@ -1,7 +1,7 @@
 -- The state of a run in code, a struct beside lent arrays, and the state of the definitions that it stands for.
 --   31                   wordCount, fitTests, fitted
 --   the numbers          Sane, SaneAfter
---   where text goes      TextGoes
+--   where text goes      movedDesk, TextGoes
 --   the relation         Tables, Held, HeldUnder
 --   a step               Answered
 use Prim.Native.Nat.{ℕ, suc, _+_, _-_, _≤_}
@@ -55,6 +55,11 @@ pub record Sane (w : List ℕ) (d : Desk) : Type 0 where
 abbrev pub SaneAfter : List ℕ → Stepped → Type 0
 SaneAfter w (SteppedOn d) = Sane w d
 SaneAfter w (SteppedOff y) = Unit {0}
+
+-- the gap moved, n cards below it: text goes there
+abbrev pub movedDesk : Desk → Gap → ℕ → Desk
+movedDesk d h n =
+    record { gap = h; low = n; entries = d .entries; decks = d .decks; cards = d .cards; yanks = d .yanks; lead = d .lead; set = d .set; next = d .next; place = TextGap }
 
 -- n cards stand below the gap
 abbrev pub TextGoes : Library → ℕ → TextAt → TextPlace → Type 0

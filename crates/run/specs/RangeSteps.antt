@@ -2,8 +2,8 @@
 --   deck cards in a range    isTitle, HasTitle
 --   the words of YANK$$$     LeadAfter
 --   YANK$$$ marked           Remarked, YankMarks
---   a range that was found   MarksFound
-use Prim.Native.Nat.{ℕ, _+_, _-_}
+--   a range that was found   GoesOn, MarksFound
+use Prim.Native.Nat.{ℕ, _+_, _-_, _≤_, _<_}
 use mathlib.Core.Path.{_≡_}
 use mathlib.Core.Bool.{Bool}
 use mathlib.Core.List.{List, _++_}
@@ -17,7 +17,7 @@ use Rattle.corrections.specs.Step.{inYanks, State, isSet, refuse, limited, Spot
 use Rattle.corrections.specs.Safe.{Safe}
 use Rattle.run.specs.CardSeek.{CardRun}
 use Rattle.run.specs.Work.{Work}
-use Rattle.run.specs.Desk.{Tables, Held, Answered}
+use Rattle.run.specs.Desk.{fitted, movedDesk, Tables, Held, Answered}
 use Rattle.run.specs.Corrected.{titled, SoughtAt}
 use Rattle.run.specs.declared.gap.Gap.{Gap}
 use Rattle.run.specs.declared.desk.Desk.{Desk}
@@ -58,6 +58,11 @@ abbrev pub YankMarks : List ℕ → List ℕ → Desk → Gap → List ℕ → L
 YankMarks w dir d h v newFlags e =
     (yk : ℕ → Bool) (names decks line : List ℕ) (s t : State) → Safe s → step s line ≡ limited t → Remarked yk w dir names decks d h t
     → Answered v dir names decks newFlags e (step s line)
+
+-- A RANGE MARKED, the gap then being k: in YANK$$$ the bits are settled, and else text goes to the gap
+pub record GoesOn (w dir flags : List ℕ) (d : Desk) (first last : ℕ) (k : Gap) (v newFlags : List ℕ) (e : Stepped) : Type 0 where
+  pub yanks : first < d .yanks → YankMarks w dir d k v newFlags e
+  pub decks : d .yanks ≤ first → (v ≡ w) × ((newFlags ≡ flags) × (e ≡ fitted (movedDesk d k (last + 1))))
 
 -- A RANGE THAT WAS FOUND, in a set and not backwards
 abbrev pub MarksFound : List ℕ → List ℕ → List ℕ → List ℕ → Desk → ℕ → Sought → Sought → ℕ → List ℕ → List ℕ → Stepped → Type 0

@@ -2,16 +2,16 @@
 --   settling           Resettled
 --   DELETE, RESTORE    asksMark, MarkSteps
 --   YANK               YankSteps
---   any line           Arrays, HeldIn, AnsweredIn, ObeysLine
+--   any line           Arrays, HeldIn, AnsweredIn, ObeysLine, corrects, CorrectsLine
 use Prim.Native.Nat.{ℕ}
 use mathlib.Core.Path.{_≡_}
 use mathlib.Core.Bool.{Bool, true, false}
 use mathlib.Core.List.{List}
-use lib.Dec.{eqb}
+use lib.Dec.{T, eqb}
 use Rattle.lines.specs.Directive.{directive}
 use Rattle.lines.specs.declared.CardName.{CardName}
 use Rattle.lines.specs.declared.Line.{Line}
-use Rattle.lines.specs.declared.Line.the-variants.{Delete, Restore, Yank as YankLine}
+use Rattle.lines.specs.declared.Line.the-variants.{Text, Skipped, Deck as DeckLine·, Comdeck, Ident, Insert, Before, Delete, Restore, Yank as YankLine, Outside, Long, Malformed, NotCarried}
 use Rattle.corrections.specs.Step.{State, Step, step}
 use Rattle.run.specs.Desk.{Held, HeldUnder, Answered}
 use Rattle.run.specs.declared.desk.Desk.{Desk}
@@ -52,3 +52,23 @@ AnsweredIn a r t = Answered (a .words) (a .dir) (a .names) (a .decks) (a .flags)
 
 abbrev pub ObeysLine : Arrays → Desk → List ℕ → Arrays → Stepped → Type 0
 ObeysLine a d line b r = (s : State) → HeldIn a d s → AnsweredIn b r (step s line)
+
+-- a line that is no text, is not skipped and starts no unit: a correction, or one that is refused for what it is
+abbrev pub corrects : Line → Bool
+corrects Text = false
+corrects Skipped = false
+corrects (DeckLine· w) = false
+corrects (Comdeck w) = false
+corrects (Ident w) = false
+corrects (Insert a) = true
+corrects (Before a) = true
+corrects (Delete a b) = true
+corrects (Restore a b) = true
+corrects YankLine = true
+corrects Outside = true
+corrects Long = true
+corrects Malformed = true
+corrects NotCarried = true
+
+abbrev pub CorrectsLine : Arrays → Desk → List ℕ → Line → Arrays → Stepped → Type 0
+CorrectsLine a d line asked b r = T (corrects asked) → directive line ≡ asked → ObeysLine a d line b r

@@ -3,7 +3,7 @@
 --   finding a card          Stands, Located, Locates
 --   placing the gap         OpensAfter, OpensAhead, OpensAt
 --   a new card              PutCard, PutsCard
---   DELETE, RESTORE         within, upTo, beyondCard, KeepsOrder, MarkedTo, MarksTo, rangeOf, MarkedBetween, MarksBetween
+--   DELETE, RESTORE         within, upTo, beyondCard, KeepsOrder, MarkedTo, MarksTo, rangeOf, MarkedBetween
 --   bits settled again      Resettles
 use Prim.Native.Nat.{ℕ, _+_, _-_, _≤_, _<_}
 use mathlib.Core.Path.{_≡_}
@@ -108,18 +108,12 @@ MarksTo w g o s was n v r = (yk : ℕ → Bool) (cs1 cs2 : List Card) → Work w
 abbrev pub rangeOf : ℕ → ℕ → List Card → List Card
 rangeOf i j cs = take (j + 1 - i) (drop i cs)
 
--- the same from a card found, of index i, up to the one named, of index j: the gap then stands directly after the range
+-- the same of all cards, from the one of index i, directly above the gap, up to the one named, of index j: the gap then stands directly after the range
 pub record MarkedBetween (w : List ℕ) (yk : ℕ → Bool) (cs : List Card) (i j was n : ℕ) (v : List ℕ) (r : Marked) : Type 0 where
   pub limit : within (length w) yk (take i cs) (markAll yk was n (rangeOf i j cs)) (drop (j + 1) cs) ≡ false → r ≡ Limit
   pub done :
       within (length w) yk (take i cs) (markAll yk was n (rangeOf i j cs)) (drop (j + 1) cs) ≡ true
       → (h : Gap) × ((r ≡ Done h) × Work v h yk (take i cs ++ markAll yk was n (rangeOf i j cs)) (drop (j + 1) cs))
-
-abbrev pub MarksBetween : List ℕ → Gap → ℕ → ℕ → ℕ → ℕ → ℕ → List ℕ → Marked → Type 0
-MarksBetween w g at o s was n v r =
-    (yk : ℕ → Bool) (cs1 cs2 : List Card) (i : ℕ) → Work w g yk cs1 cs2 → Stands g yk cs1 cs2 i at
-    → i ≤ indexOf o s (cs1 ++ cs2) → indexOf o s (cs1 ++ cs2) < length (cs1 ++ cs2) → yk n ≡ false → 0 < n
-    → MarkedBetween w yk (cs1 ++ cs2) i (indexOf o s (cs1 ++ cs2)) was n v r
 
 -- BITS SETTLED AGAIN
 abbrev pub Resettles : List ℕ → Gap → (ℕ → Bool) → List ℕ → Type 0

@@ -1,7 +1,7 @@
 // The state of a run, by value beside the lent arrays, and what a line's step answers.
 ghost use mathlib.Core.Path.{_≡_};
 ghost use Prim.Native.Nat.{_≤_};
-ghost use Rattle.run.specs.Desk.{fitted};
+ghost use Rattle.run.specs.Desk.{movedDesk, fitted};
 use crate::gap::Gap;
 use corrections::Why;
 
@@ -40,6 +40,24 @@ pub(crate) enum Stepped {
 pub(crate) const ROOM: usize = 65536;
 
 pub(crate) const AHEAD: usize = 3;
+
+// The state with the gap at another place of the decks, so many cards below it: text goes there.
+pub(crate) fn moved(d: Desk, g: Gap, low: usize) -> Desk
+    ensures { λ r. ⌜ r ≡ movedDesk d g low ⌝ }
+{
+    Desk {
+        gap: g,
+        low: low,
+        entries: d.entries,
+        decks: d.decks,
+        cards: d.cards,
+        yanks: d.yanks,
+        lead: d.lead,
+        set: d.set,
+        next: d.next,
+        place: TextAt::Gap,
+    }
+}
 
 // 31: a limit of rows 1, 3 or 5 would be passed.
 pub(crate) fn limited(d: Desk) -> Stepped

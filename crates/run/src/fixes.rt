@@ -6,7 +6,7 @@ ghost use Rattle.run.specs.Desk.{Sane, SaneAfter};
 ghost use Rattle.run.specs.Corrected.{titled, SeeksCard, InsertSteps, BeforeSteps};
 use crate::desk::Desk;
 use crate::desk::Stepped;
-use crate::desk::TextAt;
+use crate::desk::moved;
 use crate::gap::open_after;
 use crate::gap::open_ahead;
 use crate::seek::locate;
@@ -62,18 +62,7 @@ pub(crate) fn insert_step(w: &mut [u64], dir: &[u64], d: Desk, r: CardName) -> S
     }
     let g = d.gap;
     let h = open_after(w, g, f.at);
-    Stepped::Went(Desk {
-        gap: h,
-        low: f.index + 1,
-        entries: d.entries,
-        decks: d.decks,
-        cards: d.cards,
-        yanks: d.yanks,
-        lead: d.lead,
-        set: d.set,
-        next: d.next,
-        place: TextAt::Gap,
-    })
+    Stepped::Went(moved(d, h, f.index + 1))
 }
 
 // Whether a deck's card has this owner and number: flag n is not 0 where n is a deck's.
@@ -120,16 +109,5 @@ pub(crate) fn before_step(
     }
     let g = d.gap;
     let h = open_ahead(w, g, f.at);
-    Stepped::Went(Desk {
-        gap: h,
-        low: f.index,
-        entries: d.entries,
-        decks: d.decks,
-        cards: d.cards,
-        yanks: d.yanks,
-        lead: d.lead,
-        set: d.set,
-        next: d.next,
-        place: TextAt::Gap,
-    })
+    Stepped::Went(moved(d, h, f.index))
 }

@@ -69,9 +69,11 @@ fn load_words(old: &[u64], n: usize, k: usize, w: &mut [u64], dir: &mut [u64], n
     ensures { λ _. ⌜ now (dir .exit) ≡ take n (drop 2 (now (old .entry))) ++ drop n (now (dir .entry)) ⌝ }
     ensures { λ _. ⌜ now (names .exit) ≡ take k (drop (2 + n) (now (old .entry))) ++ drop k (now (names .entry)) ⌝ }
 {
-    store::copy(dir, &old[2..2 + n]);
-    store::copy(names, &old[2 + n..2 + n + k]);
-    store::copy(w, &old[2 + n + k..]);
+    let at = 2 + n;
+    let end = at + k;
+    store::copy(dir, &old[2..at]);
+    store::copy(names, &old[at..end]);
+    store::copy(w, &old[end..]);
 }
 
 // The library in work at the start of a run: the gap is behind the cards, no unit has begun, and text goes nowhere.
@@ -86,8 +88,9 @@ pub(crate) fn load(
     ensures { λ d. ⌜ Sane (now (w .exit)) d × (d .lead ≤ d .gap .lo) ⌝ }
     ensures { λ d. ⌜ Loads (now (old .entry)) (now (w .exit)) (now (dir .exit)) (now (names .exit)) (now (decks .exit)) d ⌝ }
 {
-    let n = (old[1] / FIELD) as usize;
-    let k = (old[1] % FIELD) as usize;
+    let counts = old[1];
+    let n = (counts / FIELD) as usize;
+    let k = (counts % FIELD) as usize;
     let lo = old.len() - (2 + n + k);
     load_words(old, n, k, w, dir, names);
     flag_decks(dir, n, names, k, decks);

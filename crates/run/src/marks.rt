@@ -4,7 +4,7 @@ ghost use Prim.Native.Nat.{ℕ, _+_, _≤_, _<_};
 ghost use lib.ListN.{length};
 ghost use Rattle.run.specs.GapWords.{Ordered};
 ghost use Rattle.run.specs.ByteMarks.{ByteAdded, Marks, Passes, MarksRange};
-ghost use Rattle.run.specs.Work.{KeepsOrder, MarksBetween, MarksTo};
+ghost use Rattle.run.specs.Work.{KeepsOrder, MarksTo};
 use crate::card::ACTIVATING;
 use crate::card::FIELD;
 use crate::card::LAST;
@@ -14,7 +14,6 @@ use crate::card::see;
 use crate::card::with_active;
 use crate::gap::Gap;
 use crate::gap::lower;
-use crate::gap::open_ahead;
 use crate::seek::find;
 
 // One byte more in the history whose last word is directly below `lo`: it takes a place in that word, or a word of its own.
@@ -129,7 +128,7 @@ pub(crate) enum Marked {
 }
 
 // DELETE (was 1) and RESTORE (was 0) by the set n, over the cards from the gap up to the one with this owner and number.
-fn mark_to(w: &mut [u64], g: Gap, owner: u64, seq: u64, was: u64, n: u64) -> Marked
+pub(crate) fn mark_to(w: &mut [u64], g: Gap, owner: u64, seq: u64, was: u64, n: u64) -> Marked
     requires { ⌜ Ordered (now w) g × ((length (now w) ≤ 65536) × ((n < 65536) × (was < 2))) ⌝ }
     ensures { λ r. ⌜ KeepsOrder (now (w .entry)) r ⌝ }
     ensures { λ r. ⌜ MarksTo (now (w .entry)) g owner seq was n (now (w .exit)) r ⌝ }
@@ -151,22 +150,4 @@ fn mark_to(w: &mut [u64], g: Gap, owner: u64, seq: u64, was: u64, n: u64) -> Mar
         return Marked::Limit;
     }
     Marked::Done(h)
-}
-
-// The same from the card at `at` up to the one with this owner and number: text after it goes to the gap, directly after the last card.
-pub(crate) fn mark_between(
-    w: &mut [u64],
-    g: Gap,
-    at: usize,
-    owner: u64,
-    seq: u64,
-    was: u64,
-    n: u64,
-) -> Marked
-    requires { ⌜ Ordered (now w) g × ((length (now w) ≤ 65536) × ((n < 65536) × (was < 2))) ⌝ }
-    ensures { λ r. ⌜ KeepsOrder (now (w .entry)) r ⌝ }
-    ensures { λ r. ⌜ MarksBetween (now (w .entry)) g at owner seq was n (now (w .exit)) r ⌝ }
-{
-    let h = open_ahead(w, g, at);
-    mark_to(w, h, owner, seq, was, n)
 }

@@ -6,12 +6,13 @@ ghost use Rattle.run.specs.GapWords.{Ordered};
 ghost use Rattle.run.specs.Desk.{Sane, SaneAfter};
 ghost use Rattle.run.specs.Corrected.{SeeksCard};
 ghost use Rattle.run.specs.Resettled.{MarkSteps};
-ghost use Rattle.run.specs.RangeSteps.{HasTitle, LeadAfter, YankMarks, MarksFound};
+ghost use Rattle.run.specs.RangeSteps.{HasTitle, LeadAfter, YankMarks, GoesOn, MarksFound};
 use crate::card::see;
 use crate::desk::Desk;
 use crate::desk::Stepped;
 use crate::desk::TextAt;
 use crate::desk::limited;
+use crate::desk::moved;
 use crate::fixes::Sought;
 use crate::fixes::is_title;
 use crate::fixes::seek_card;
@@ -19,7 +20,7 @@ use crate::gap::Gap;
 use crate::gap::open_ahead;
 use crate::gap::open_at;
 use crate::marks::Marked;
-use crate::marks::mark_between;
+use crate::marks::mark_to;
 use crate::yanks::resettle;
 use corrections::Why;
 use lines::CardName;
@@ -94,6 +95,26 @@ fn yank_marked(w: &mut [u64], dir: &[u64], flags: &mut [u64], d: Desk, h: Gap) -
     }
 }
 
+// A range is marked, and k is the gap after that: text goes there, or the range is one of YANK$$$.
+fn range_marked(
+    w: &mut [u64],
+    dir: &[u64],
+    flags: &mut [u64],
+    d: Desk,
+    first: usize,
+    last: usize,
+    k: Gap,
+) -> Stepped
+    requires { ⌜ Sane (now w) d × (Ordered (now w) k × ((length (now dir) ≡ 1024) × ((1024 < length (now flags)) × (last < d .cards)))) ⌝ }
+    ensures { λ e. ⌜ SaneAfter (now (w .exit)) e ⌝ }
+    ensures { λ e. ⌜ GoesOn (now (w .entry)) (now (dir .entry)) (now (flags .entry)) d first last k (now (w .exit)) (now (flags .exit)) e ⌝ }
+{
+    if first < d.yanks {
+        return yank_marked(w, dir, flags, d, k);
+    }
+    limited(moved(d, k, last + 1))
+}
+
 // The range from the card f to the card l, which has the number seq: 30 where it has a deck card, else its cards are marked.
 fn mark_found(
     w: &mut [u64],
@@ -112,31 +133,14 @@ fn mark_found(
 {
     let g = d.gap;
     let h = open_ahead(w, g, f.at);
-    let at = h.hi;
-    if has_title(w, decks, at, l.index - f.index + 1) {
+    if has_title(w, decks, h.hi, l.index - f.index + 1) {
         return Stepped::Refused(Why::Barred);
     }
-    let m = mark_between(w, h, at, l.own, seq, was, d.entries as u64);
+    let m = mark_to(w, h, l.own, seq, was, d.entries as u64);
     match m {
         Marked::NoCard => Stepped::Refused(Why::NoCard),
         Marked::Limit => Stepped::Refused(Why::Limit),
-        Marked::Done(k) => {
-            if f.index < d.yanks {
-                return yank_marked(w, dir, flags, d, k);
-            }
-            limited(Desk {
-                gap: k,
-                low: l.index + 1,
-                entries: d.entries,
-                decks: d.decks,
-                cards: d.cards,
-                yanks: d.yanks,
-                lead: d.lead,
-                set: d.set,
-                next: d.next,
-                place: TextAt::Gap,
-            })
-        }
+        Marked::Done(k) => { range_marked(w, dir, flags, d, f.index, l.index, k) }
     }
 }
 

@@ -10,8 +10,8 @@ use crate::desk::TextAt;
 use crate::desk::limited;
 use crate::gap::Gap;
 use crate::put::put_card;
+use compressing::Compressed;
 use corrections::Why;
-use text::Compressed;
 
 // A new card at the gap with the line's text. Where its words do not fit, lo passes hi.
 pub(crate) fn put_line(w: &mut [u64], g: Gap, line: &[u8], seq: u64, n: u64) -> Gap
@@ -20,7 +20,7 @@ pub(crate) fn put_line(w: &mut [u64], g: Gap, line: &[u8], seq: u64, n: u64) -> 
     ensures { λ r. ⌜ PutsLine (now (w .entry)) g (now (line .entry)) seq n (now (w .exit)) r ⌝ }
 {
     let mut text = [0u64; 16];
-    let c = text::compress(line, &mut text);
+    let c = compressing::compress(line, &mut text);
     match c {
         Compressed::Words(k) => put_card(w, g, &text, k, seq, n),
         Compressed::Outside => g,

@@ -51,7 +51,7 @@ fn any_unknown(dir: &[u64], n: usize, field: &[u8]) -> bool
 {
     let mut at = 0;
     loop {
-        match lines::next_name(field, at) {
+        match directives::next_name(field, at) {
             NameStep::Name { word, next } => {
                 if is_unknown(dir, n, word) {
                     return true;
@@ -70,7 +70,7 @@ fn any_no_set(dir: &[u64], n: usize, names: &[u64], k: usize, field: &[u8]) -> b
 {
     let mut at = 0;
     loop {
-        match lines::next_name(field, at) {
+        match directives::next_name(field, at) {
             NameStep::Name { word, next } => {
                 if is_no_set(dir, n, names, k, word) {
                     return true;

@@ -1,5 +1,3 @@
-pub mod Putting
-pub mod Squeezing
-pub mod Filling
+pub mod Placing
 pub mod Answers
 pub mod Saying

@@ -7,7 +7,7 @@ use mathlib.Core.List.{List, [], _∷_, _++_, map, append-assoc, append-nil}
 use borrow.Author.Tests.{ne-eqb}
 use lib.Dec.{ltb→lt}
 use lib.ListN.{length, getD, take, drop, replicate, length-append, length-replicate, take-append-drop, drop-of-length-le}
-use lib.Seq.{drop-drop, length-take-le}
+use lib.Seq.{length-take-le}
 use Rattle.words.specs.Base.{all, isWord}
 use Rattle.words.specs.Display.{letter, blank}
 use Rattle.words.specs.Text.{gap, lowCodes, allCodes, columnsOf, says, isText}
@@ -15,6 +15,7 @@ use Rattle.text.specs.Saying.{past, secondSays, codeSays, aheadAfter, co
 use Rattle.words.proofs.Tests.{T-true, true-T}
 use Rattle.words.proofs.Trimming.{blank-letter}
 use Rattle.text.proofs.Answers.{text-fits}
+use Rattle.text.proofs.Placing.{same-beyond, Placed, placed-as}
 use Rattle.words.proofs.Passing.{passes, stops}
 use Rattle.form.proofs.OneForm.{text-words}
 use Rattle.form.proofs.Tops.{topCodes, top-word, word-parted}
@@ -51,26 +52,12 @@ say-append p (c ∷ a) b =
     ap (λ (r : List ℕ). codeSays p c ++ r) (say-append (aheadAfter p c) a b)
     ∙ sym (append-assoc (codeSays p c) (codesSay (aheadAfter p c) a) (codesSay (aheadOf (aheadAfter p c) a) b))
 
--- COLUMNS PUT
--- xs put at a place of d, where e is what stands there afterwards and r the place behind them; nothing behind them has changed
-abbrev pub Placed : List ℕ → List ℕ → ℕ → List ℕ → ℕ → Type 0
-Placed xs d at e r = (r ≡ at + length xs) × ((take r e ≡ take at d ++ xs) × (drop r e ≡ drop r d))
-
-pub placed-none : (d : List ℕ) (at : ℕ) → Placed [] d at d at
-placed-none d at = (omega arith, (sym (append-nil (take at d)), refl))
-
-pub placed-as : (xs ys d e : List ℕ) (at r : ℕ) → xs ≡ ys → Placed xs d at e r → Placed ys d at e r
-placed-as xs ys d e at r q p = rw q at p
-
 -- ONE CODE
 pub second-colon : (c : ℕ) → c ≡ 1 → 58 ∷ [] ≡ secondSays c
 second-colon c e = rw e
 
 pub second-run : (c : ℕ) → 0 < c → (c ≡ 1 → ⊥) → replicate (c + 1) blank ≡ secondSays c
 second-run c h n = rw (ne-eqb c 0 (λ e. omega arith), ne-eqb c 1 n)
-
-pub placed-run : (c b : ℕ) (d e : List ℕ) (at r : ℕ) → (r ≡ at + (c + 1)) × ((take r e ≡ take at d ++ replicate (c + 1) b) × (drop r e ≡ drop r d)) → Placed (replicate (c + 1) b) d at e r
-placed-run c b d e at r p = (omega (arith, p .0, length-replicate (c + 1) b), p .1)
 
 pub colon-fits : (c at : ℕ) (d : List ℕ) → c ≡ 1 → at + length (secondSays c) ≤ length d → at < length d
 colon-fits c at d e h = let l : length (secondSays c) ≡ 1 = ap length (sym (second-colon c e)) in omega arith
@@ -121,7 +108,7 @@ toward-more all c d e xs ys at r l p t = record {
   long = l ∙ t .long;
   fits = omega (arith, p .0, t .fits, length-append xs ys);
   owed = ap (λ (q : List ℕ). q ++ ys) (p .1 .0) ∙ append-assoc (take at d) xs ys ∙ t .owed;
-  rest = p .1 .1 ∙ ap (λ (i : ℕ). drop i d) (p .0) ∙ sym (drop-drop (length xs) at d) ∙ ap (drop (length xs)) (t .rest) ∙ drop-drop (length xs) at c ∙ ap (λ (i : ℕ). drop i c) (sym (p .0));
+  rest = p .1 .1 ∙ same-beyond c d at (length xs) r (p .0) (t .rest);
 }
 
 toward-end : (all c d : List ℕ) (at : ℕ) → Toward all c d [] at → take at d ≡ all

@@ -6,7 +6,7 @@ use mathlib.Core.Bool.{Bool}
 use mathlib.Core.List.{List, [], _∷_}
 use borrow.Author.Tests.{eq-eqb, ne-eqb}
 use lib.ListN.{length, getD, drop, length-drop}
-use Rattle.image.proofs.Rows.{row-cons}
+use Rattle.decks.proofs.Rows.{row-cons}
 use Rattle.walks.specs.View.{DeckView}
 use Rattle.walks.specs.TableView.{shownIn, rowView, tableView}
 use Rattle.walks.specs.declared.Stop.{Stop}

@@ -8,7 +8,7 @@ use borrow.Author.Tests.{eq-eqb, ne-eqb}
 use lib.ListN.{length, getD, drop, length-drop}
 use Rattle.walks.specs.declared.calls.Place.the-variants.{Missing, Normal}
 use Rattle.library.specs.Library.{reserved}
-use Rattle.image.proofs.Rows.{row-cons}
+use Rattle.decks.proofs.Rows.{row-cons}
 use Rattle.walks.specs.Steps.{rowPlace, rowIn, findRow}
 
 pub find-reserved : (w : ℕ) (t : List ℕ) → w ≡ reserved → Normal ≡ findRow w t

@@ -1,7 +1,6 @@
 pub mod ViewBack
 pub mod AlikeView
 pub mod Showing
-pub mod Printing
 pub mod Finding
 pub mod Putting
 pub mod Stepping

@@ -15,7 +15,7 @@ use Rattle.lines.specs.declared.Call.the-variants.{Not, Of, Malformed}
 use Rattle.library.specs.Library.{reserved}
 use Rattle.walks.specs.View.{Shown, DeckView}
 use Rattle.walks.specs.Walk.{Found, missing, notCommon, common, lookUp}
-use Rattle.walks.specs.Lines.{lineOf}
+use Rattle.print.specs.Lines.{lineOf}
 use Rattle.walks.specs.declared.Stop.{Stop}
 use Rattle.walks.specs.declared.Stop.the-variants.{NoDeck, NotCommon, Deep, Many, Space}
 use Rattle.walks.specs.declared.Walked.{Walked}

@@ -3,11 +3,11 @@ ghost use mathlib.Core.Path.{_≡_};
 ghost use Prim.Native.Nat.{_<_};
 ghost use Rattle.walks.specs.Steps.{findRow, openAt, askedOf};
 use crate::Stop;
-use image::COMMON;
-use image::FROM;
-use image::KIND;
-use image::ROW;
-use image::TO;
+use decks::COMMON;
+use decks::FROM;
+use decks::KIND;
+use decks::ROW;
+use decks::TO;
 use lines::Call;
 
 // "more than 4,096 calls"

@@ -1,6 +1,5 @@
-// The walk over decks and calls, and the line of 91 bytes (01, "The compile file"; rows 40 to 44).
+// The walk over decks and calls (01, "The compile file"; rows 40 to 44).
 mod calls;
-mod print;
 mod walk;
 
 pub use walk::walk_decks;

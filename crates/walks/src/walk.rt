@@ -8,19 +8,19 @@ use crate::Stop;
 use crate::Walked;
 use crate::calls::Asked;
 use crate::calls::asks;
-use crate::print::LINE;
-use crate::print::put_line;
+use decks::COMMON;
+use decks::FROM;
+use decks::KIND;
+use decks::ROW;
+use decks::TO;
 use image::COLUMNS;
-use image::COMMON;
-use image::FROM;
-use image::KIND;
-use image::ROW;
-use image::TO;
 use image::line_of;
 use image::see;
 use image::star_at;
 use image::word_at;
 use library::Seen;
+use print::LINE;
+use print::print_line;
 
 // "call nested deeper than 8 (in a normal deck it is 1)"
 const DEPTH: usize = 8;
@@ -46,7 +46,7 @@ fn put(
     }
     let at = lines * LINE;
     let name = word_at(image, c.owner as usize + 1);
-    put_line(line, name, c.seq, &mut out[at..at + LINE]);
+    print_line(line, name, c.seq, &mut out[at..at + LINE]);
     Walked::On(lines + 1, calls)
 }
 

@@ -3,7 +3,6 @@ pub mod Adding
 pub mod Settling
 pub mod Marking
 pub mod Chaining
-pub mod Encoded
 pub mod Passing
 pub mod Saying
 pub mod Yanking

@@ -32,7 +32,7 @@ fn mark_names(directory: &[u64], ways: &[u16; ALL_WAYS], field: &[u8], flags: &m
 {
     let mut at = 0;
     loop {
-        match lines::next_name(field, at) {
+        match directives::next_name(field, at) {
             NameStep::Name { word, next } => {
                 mark_number(flags, entry_by(directory, ways, word));
                 at = next;
@@ -46,7 +46,7 @@ fn mark_line(directory: &[u64], ways: &[u16; ALL_WAYS], line: &[u8], flags: &mut
     requires { ⌜ Knows (now directory) (now ways) ⌝ }
     ensures { λ _. ⌜ now (flags .exit) ≡ marked (now (directory .entry)) (namesIn (now (line .entry))) (now (flags .entry)) ⌝ }
 {
-    if library::asks_yank(lines::directive(line)) {
+    if library::asks_yank(directives::directive(line)) {
         mark_names(directory, ways, lines::field_of(line), flags);
     }
 }

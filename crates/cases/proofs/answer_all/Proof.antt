@@ -1,43 +1,33 @@
--- The lengths stay as they were, and the turns fall.
-use mathlib.Core.Path.{_≡_}
-use lib.ListN.{length}
+-- The turns fall, and nothing else has to be known.
 use borrow.Author.Needs.{needs}
 use Rattle.cases.proofs.answer_all.Statement.{statement}
 use Rattle.cases.proofs.answer_all.Tie as tie
 
 abbrev Inv-loop : tie.InvT-loop
-Inv-loop input₀ words₀ bytes₀ library₀ file₀ feed₀ turns₀ input words bytes library file feed turns =
-    (length input ≡ length input₀) × ((length words ≡ length words₀) × ((length bytes ≡ length bytes₀) × ((length library ≡ length library₀) × (length file ≡ length file₀))))
+Inv-loop input₀ words₀ bytes₀ library₀ file₀ head₀ feed₀ turns₀ input words bytes library file head feed turns =
+    Unit
 
 abbrev μ-loop : tie.MeasureT-loop
-μ-loop input₀ words₀ bytes₀ library₀ file₀ feed₀ turns₀ input words bytes library file feed turns = turns
+μ-loop input₀ words₀ bytes₀ library₀ file₀ head₀ feed₀ turns₀ input words bytes library file head feed turns =
+    turns
 
 start-requires : tie.Need-start-requires Inv-loop μ-loop
 start-requires c κs = search needs
 
 loop-holds : tie.Need-loop-holds Inv-loop μ-loop
-loop-holds c = search needs
+loop-holds c = tt
 
-step-requires : tie.Need-step-requires Inv-loop μ-loop
-step-requires c κs = search needs
-
-same-length : tie.Need-same-length Inv-loop μ-loop
-same-length c = search needs
-
-same-length-2 : tie.Need-same-length-2 Inv-loop μ-loop
-same-length-2 c = search needs
-
-same-length-3 : tie.Need-same-length-3 Inv-loop μ-loop
-same-length-3 c = search needs
-
-same-length-4 : tie.Need-same-length-4 Inv-loop μ-loop
-same-length-4 c = search needs
-
-same-length-5 : tie.Need-same-length-5 Inv-loop μ-loop
-same-length-5 c = search needs
+ready-requires : tie.Need-ready-requires Inv-loop μ-loop
+ready-requires c κs = search needs
 
 returns : tie.Need-returns Inv-loop μ-loop
 returns c = search needs
+
+read-requires : tie.Need-read-requires Inv-loop μ-loop
+read-requires c κs = search needs
+
+answer-one-requires : tie.Need-answer-one-requires Inv-loop μ-loop
+answer-one-requires c κs = search needs
 
 sub-turns : tie.Need-sub-turns Inv-loop μ-loop
 sub-turns c = search needs
@@ -46,22 +36,7 @@ loop-less : tie.Need-loop-less Inv-loop μ-loop
 loop-less c = search needs
 
 loop-again : tie.Need-loop-again Inv-loop μ-loop
-loop-again c = search needs
-
-same-length-6 : tie.Need-same-length-6 Inv-loop μ-loop
-same-length-6 c = search needs
-
-same-length-7 : tie.Need-same-length-7 Inv-loop μ-loop
-same-length-7 c = search needs
-
-same-length-8 : tie.Need-same-length-8 Inv-loop μ-loop
-same-length-8 c = search needs
-
-same-length-9 : tie.Need-same-length-9 Inv-loop μ-loop
-same-length-9 c = search needs
-
-same-length-10 : tie.Need-same-length-10 Inv-loop μ-loop
-same-length-10 c = search needs
+loop-again c = tt
 
 returns-2 : tie.Need-returns-2 Inv-loop μ-loop
 returns-2 c = search needs
@@ -74,19 +49,11 @@ answer-all-spec =
     μ-loop
     start-requires
     loop-holds
-    step-requires
-    same-length
-    same-length-2
-    same-length-3
-    same-length-4
-    same-length-5
+    ready-requires
     returns
+    read-requires
+    answer-one-requires
     sub-turns
     loop-less
     loop-again
-    same-length-6
-    same-length-7
-    same-length-8
-    same-length-9
-    same-length-10
     returns-2)

@@ -1,5 +1,5 @@
 -- The table of an accepted image stands for the view of its library.
-use Rattle.image.proofs.Rows.{table-taken}
+use Rattle.decks.proofs.Rows.{table-taken}
 use Rattle.compile.proofs.Encoded.{image-answers}
 use lib.Seq.{length-take-le}
 use mathlib.Core.Path.{sym}

@@ -1,13 +1,11 @@
 -- The count stays within n, and each turn that does not return takes one byte.
 use Prim.Native.Nat.{_-_, _≤_}
-use mathlib.Core.Path.{_≡_}
-use lib.ListN.{length}
 use borrow.Author.Needs.{needs}
 use Rattle.cases.proofs.feed.skip.Statement.{statement}
 use Rattle.cases.proofs.feed.skip.Tie as tie
 
 abbrev Inv-loop : tie.InvT-loop
-Inv-loop input₀ n f₀ i₀ input f i = (i ≤ n) × (length input ≡ length input₀)
+Inv-loop input₀ n f₀ i₀ input f i = i ≤ n
 
 abbrev μ-loop : tie.MeasureT-loop
 μ-loop input₀ n f₀ i₀ input f i = n - i
@@ -17,9 +15,6 @@ loop-holds c = search needs
 
 ready-requires : tie.Need-ready-requires Inv-loop μ-loop
 ready-requires c κs = search needs
-
-same-length : tie.Need-same-length Inv-loop μ-loop
-same-length c = search needs
 
 returns : tie.Need-returns Inv-loop μ-loop
 returns c = search needs
@@ -36,9 +31,6 @@ loop-less c = search needs
 loop-again : tie.Need-loop-again Inv-loop μ-loop
 loop-again c = search needs
 
-same-length-2 : tie.Need-same-length-2 Inv-loop μ-loop
-same-length-2 c = search needs
-
 returns-2 : tie.Need-returns-2 Inv-loop μ-loop
 returns-2 c = search needs
 
@@ -50,11 +42,9 @@ skip-spec =
     μ-loop
     loop-holds
     ready-requires
-    same-length
     returns
     add-f
     add-i
     loop-less
     loop-again
-    same-length-2
     returns-2)

@@ -7,7 +7,7 @@ use Rattle.cases.proofs.feed.take_words.Statement.{statement}
 use Rattle.cases.proofs.feed.take_words.Tie as tie
 
 abbrev Inv-loop : tie.InvT-loop
-Inv-loop input₀ out₀ f₀ i₀ eight₀ input out f i eight = (i ≤ length out₀) × ((length out ≡ length out₀) × ((length input ≡ length input₀) × (length eight ≡ 8)))
+Inv-loop input₀ out₀ f₀ i₀ eight₀ input out f i eight = (i ≤ length out₀) × ((length out ≡ length out₀) × (length eight ≡ 8))
 
 abbrev μ-loop : tie.MeasureT-loop
 μ-loop input₀ out₀ f₀ i₀ eight₀ input out f i eight = length out₀ - i
@@ -37,13 +37,10 @@ loop-less : tie.Need-loop-less Inv-loop μ-loop
 loop-less c = search needs
 
 loop-again : tie.Need-loop-again Inv-loop μ-loop
-loop-again c = (search needs, (search needs, (search needs, search needs)))
+loop-again c = (search needs, (search needs, search needs))
 
 same-length : tie.Need-same-length Inv-loop μ-loop
 same-length c = search needs
-
-same-length-2 : tie.Need-same-length-2 Inv-loop μ-loop
-same-length-2 c = search needs
 
 returns : tie.Need-returns Inv-loop μ-loop
 returns c = search needs
@@ -64,5 +61,4 @@ take-words-spec =
     loop-less
     loop-again
     same-length
-    same-length-2
     returns)

@@ -13,11 +13,8 @@ use Rattle.run.proofs.load.flag_decks.Reads as flag-decks-reads
 use Rattle.run.proofs.load.load_words.Reads as load-words-reads
 use Rattle.run.proofs.seek.find.Reads as find-reads
 
-shared-slice-read-n : tie.Need-shared-slice-read-n
-shared-slice-read-n c = search needs
-
-shared-slice-read-k : tie.Need-shared-slice-read-k
-shared-slice-read-k c = search needs
+shared-slice-read-counts : tie.Need-shared-slice-read-counts
+shared-slice-read-counts c = search needs
 
 add-lo : tie.Need-add-lo
 add-lo c = search needs
@@ -40,9 +37,9 @@ first-title-requires c κs = search needs
 find-requires : tie.Need-find-requires
 find-requires c κs = search needs
 
-sub-t15 : tie.Need-sub-t15
-sub-t15 c =
-    let some : 1 ≤ getD (c .before .before .before .before .before .before .before .before .before .before .before .before .before .before .before .before .before .before .before .before .before .before .before .before .before .before .before .before .args .old .now) 1 0 % 2 ^ 18 = c .before .before .before .before .before .before .before .before .before .before .before .before .before .before .before .before .before .before .before .before .before .before .before .before .before .before .before .before .pre .0 .some in
+sub-t14 : tie.Need-sub-t14
+sub-t14 c =
+    let some : 1 ≤ getD (c .before .before .before .before .before .before .before .before .before .before .before .before .before .before .before .before .before .before .before .before .before .before .before .before .before .before .before .args .old .now) 1 0 % 2 ^ 18 = c .before .before .before .before .before .before .before .before .before .before .before .before .before .before .before .before .before .before .before .before .before .before .before .before .before .before .before .pre .0 .some in
     search needs
 
 same-length : tie.Need-same-length
@@ -59,8 +56,8 @@ same-length-4 c = search needs
 
 returns : tie.Need-returns
 returns c =
-    let a = c .before .before .before .before .before .before .before .before .before .before .before .before .before .before .before .before .before .before .before .before .before .before .before .before .before .before .before .before .args in
-    let pre = c .before .before .before .before .before .before .before .before .before .before .before .before .before .before .before .before .before .before .before .before .before .before .before .before .before .before .before .before .pre in
+    let a = c .before .before .before .before .before .before .before .before .before .before .before .before .before .before .before .before .before .before .before .before .before .before .before .before .before .before .before .args in
+    let pre = c .before .before .before .before .before .before .before .before .before .before .before .before .before .before .before .before .before .before .before .before .before .before .before .before .before .before .before .pre in
     let p = c .before .before .before .before .before .before .before .before .before .before .before .before .before .before .before .before .before .load-words in
     let f = c .before .before .before .before .before .before .before .flag-decks in
     let t = c .before .before .first-title in
@@ -75,8 +72,7 @@ pub load-spec : {M : Type 1} → statement M
 load-spec =
     tie.close
     (tie.spec
-    shared-slice-read-n
-    shared-slice-read-k
+    shared-slice-read-counts
     add-lo
     add-lo-2
     sub-lo
@@ -84,7 +80,7 @@ load-spec =
     flag-decks-requires
     first-title-requires
     find-requires
-    sub-t15
+    sub-t14
     same-length
     same-length-2
     same-length-3

@@ -10,8 +10,11 @@ use Rattle.run.proofs.load.load_words.Reads as reads
 use Rattle.run.proofs.load.load_words.Lts as lts
 use Rattle.store.proofs.copy.Reads as copy-reads
 
-add-copy : tie.Need-add-copy
-add-copy c = search needs
+add-at : tie.Need-add-at
+add-at c = search needs
+
+add-end : tie.Need-add-end
+add-end c = search needs
 
 sub-copy : tie.Need-sub-copy
 sub-copy c = search needs
@@ -24,15 +27,6 @@ part-copy-end c = search needs
 
 copy-requires : tie.Need-copy-requires
 copy-requires c κs = search needs
-
-add-copy-2 : tie.Need-add-copy-2
-add-copy-2 c = search needs
-
-add-copy-3 : tie.Need-add-copy-3
-add-copy-3 c = search needs
-
-add-copy-4 : tie.Need-add-copy-4
-add-copy-4 c = search needs
 
 mul-copy : tie.Need-mul-copy
 mul-copy c = search needs
@@ -48,12 +42,6 @@ part-copy-end-2 c = search needs
 
 copy-requires-2 : tie.Need-copy-requires-2
 copy-requires-2 c κs = search needs
-
-add-copy-5 : tie.Need-add-copy-5
-add-copy-5 c = search needs
-
-add-copy-6 : tie.Need-add-copy-6
-add-copy-6 c = search needs
 
 mul-copy-2 : tie.Need-mul-copy-2
 mul-copy-2 c = search needs
@@ -94,21 +82,17 @@ pub load-words-spec : {M : Type 1} → statement M
 load-words-spec =
     tie.close
     (tie.spec
-    add-copy
+    add-at
+    add-end
     sub-copy
     part-copy-start
     part-copy-end
     copy-requires
-    add-copy-2
-    add-copy-3
-    add-copy-4
     mul-copy
     sub-copy-2
     part-copy-start-2
     part-copy-end-2
     copy-requires-2
-    add-copy-5
-    add-copy-6
     mul-copy-2
     sub-copy-3
     part-copy-start-3

@@ -3,6 +3,8 @@ use native.Mathlib.Omega.{arith}
 use mathlib.Core.Path.{sym}
 use lib.ListN.{length-set}
 use lib.Seq.{length-take-le}
+use mir.Facts.{fits-lit}
+use Rattle.run.proofs.Sums.{bytes-fit, order-on, head-fits, text-fits, text-near, head-below, text-below, words-follow, count-fits, with-count, number-fits, with-number, with-flag, with-owner}
 use Rattle.run.proofs.Putting.{newHead, put-none, put-copied, work-put}
 use borrow.Author.Needs.{needs}
 use Rattle.run.proofs.put.put_card.Statement.{statement}
@@ -12,70 +14,70 @@ use Rattle.run.proofs.put.put_card.Lts as lts
 use Rattle.store.proofs.copy.Reads as copy-reads
 
 add-if1 : tie.Need-add-if1
-add-if1 c = search needs
+add-if1 c = head-fits _ _ _ (c .before .before .pre .0 .0) (c .before .before .pre .0 .1) (c .before .before .pre .1 .0)
 
 add-if1-2 : tie.Need-add-if1-2
-add-if1-2 c = search needs
+add-if1-2 c = text-fits _ _ _ (c .before .before .pre .0 .0) (c .before .before .pre .0 .1) (c .before .before .pre .1 .0) _ (c .before .before .pre .1 .1 .1 .0)
 
 add-t12 : tie.Need-add-t12
-add-t12 c = search needs
+add-t12 c = head-fits _ _ _ (c .before .before .before .pre .0 .0) (c .before .before .before .pre .0 .1) (c .before .before .before .pre .1 .0)
 
 add-t13 : tie.Need-add-t13
-add-t13 c = search needs
+add-t13 c = text-fits _ _ _ (c .before .before .before .pre .0 .0) (c .before .before .before .pre .0 .1) (c .before .before .before .pre .1 .0) _ (c .before .before .before .pre .1 .1 .1 .0)
 
 returns : tie.Need-returns
 returns c =
     let a = c .before .before .before .args in
     let p = c .before .before .before .pre in (
-      search needs,
+      (p .0 .1, text-near _ _ _ (p .0 .0) (p .0 .1) (p .1 .0) _ (p .1 .1 .1 .0)),
       work-put (a .w .now) (a .g) (a .text .now) (a .k) (a .seq) (a .n) (p .0) (p .1 .1 .0) (p .1 .1 .1 .0) (p .1 .1 .1 .1 .0)
           (p .1 .1 .1 .1 .1) _ _ (put-none (a .w .now) (a .g) (a .text .now) (a .k) (a .seq) (a .n) (p .0) (p .1 .1 .0) (c .if1 .taken)),
     )
 
 add-w : tie.Need-add-w
-add-w c = search needs
+add-w c = fits-lit tt
 
 mul-w : tie.Need-mul-w
-mul-w c = search needs
+mul-w c = let a = c .before .before .before .args in count-fits (a .k) (a .seq) (a .n) (c .before .before .before .pre .1 .1 .1 .0) (c .before .before .before .pre .1 .1 .1 .1 .0) (c .before .before .before .pre .1 .1 .1 .1 .1)
 
 add-w-2 : tie.Need-add-w-2
-add-w-2 c = search needs
+add-w-2 c = let a = c .before .before .before .args in with-count (a .k) (a .seq) (a .n) (c .before .before .before .pre .1 .1 .1 .0) (c .before .before .before .pre .1 .1 .1 .1 .0) (c .before .before .before .pre .1 .1 .1 .1 .1)
 
 mul-w-2 : tie.Need-mul-w-2
-mul-w-2 c = search needs
+mul-w-2 c = let a = c .before .before .before .args in number-fits (a .k) (a .seq) (a .n) (c .before .before .before .pre .1 .1 .1 .0) (c .before .before .before .pre .1 .1 .1 .1 .0) (c .before .before .before .pre .1 .1 .1 .1 .1)
 
 add-w-3 : tie.Need-add-w-3
-add-w-3 c = search needs
+add-w-3 c = let a = c .before .before .before .args in with-number (a .k) (a .seq) (a .n) (c .before .before .before .pre .1 .1 .1 .0) (c .before .before .before .pre .1 .1 .1 .1 .0) (c .before .before .before .pre .1 .1 .1 .1 .1)
 
 add-w-4 : tie.Need-add-w-4
-add-w-4 c = search needs
+add-w-4 c = let a = c .before .before .before .args in with-flag (a .k) (a .seq) (a .n) (c .before .before .before .pre .1 .1 .1 .0) (c .before .before .before .pre .1 .1 .1 .1 .0) (c .before .before .before .pre .1 .1 .1 .1 .1)
 
 add-w-5 : tie.Need-add-w-5
-add-w-5 c = search needs
+add-w-5 c = let a = c .before .before .before .args in with-owner (a .k) (a .seq) (a .n) (c .before .before .before .pre .1 .1 .1 .0) (c .before .before .before .pre .1 .1 .1 .1 .0) (c .before .before .before .pre .1 .1 .1 .1 .1)
 
 mul-w-3 : tie.Need-mul-w-3
-mul-w-3 c = search needs
+mul-w-3 c = let p = c .before .before .before .pre in bytes-fit _ _ (order-on _ _ _ (p .0 .0) (p .0 .1)) (p .1 .0)
 
 slice-write-w : tie.Need-slice-write-w
-slice-write-w c = search needs
+slice-write-w c = head-below _ _ _ (c .before .before .before .pre .0 .0) (c .before .before .before .pre .0 .1) (c .before .before .before .pre .1 .0) _ (c .if1 .left)
 
 add-copy : tie.Need-add-copy
-add-copy c = search needs
+add-copy c = head-fits _ _ _ (c .before .before .before .pre .0 .0) (c .before .before .before .pre .0 .1) (c .before .before .before .pre .1 .0)
 
 add-copy-2 : tie.Need-add-copy-2
-add-copy-2 c = search needs
+add-copy-2 c = head-fits _ _ _ (c .before .before .before .pre .0 .0) (c .before .before .before .pre .0 .1) (c .before .before .before .pre .1 .0)
 
 add-copy-3 : tie.Need-add-copy-3
-add-copy-3 c = search needs
+add-copy-3 c = text-fits _ _ _ (c .before .before .before .pre .0 .0) (c .before .before .before .pre .0 .1) (c .before .before .before .pre .1 .0) _ (c .before .before .before .pre .1 .1 .1 .0)
 
 mul-copy : tie.Need-mul-copy
-mul-copy c = search needs
+mul-copy c = let p = c .before .before .before .pre in bytes-fit _ _ (text-below _ _ _ (c .before .before .before .pre .0 .0) (c .before .before .before .pre .0 .1) (c .before .before .before .pre .1 .0) _ (c .if1 .left)) (p .1 .0)
 
 sub-copy : tie.Need-sub-copy
-sub-copy c = search needs
+sub-copy c = words-follow _ _
 
 part-copy-start : tie.Need-part-copy-start
-part-copy-start c = search needs
+part-copy-start c = words-follow _ _
 
 part-copy-end : tie.Need-part-copy-end
 part-copy-end c = simp length-set (omega arith)
@@ -89,10 +91,10 @@ copy-requires : tie.Need-copy-requires
 copy-requires c κs = search needs
 
 add-t10 : tie.Need-add-t10
-add-t10 c = search needs
+add-t10 c = head-fits _ _ _ (c .before .before .before .before .before .before .before .before .pre .0 .0) (c .before .before .before .before .before .before .before .before .pre .0 .1) (c .before .before .before .before .before .before .before .before .pre .1 .0)
 
 add-t27 : tie.Need-add-t27
-add-t27 c = search needs
+add-t27 c = text-fits _ _ _ (c .before .before .before .before .before .before .before .before .pre .0 .0) (c .before .before .before .before .before .before .before .before .pre .0 .1) (c .before .before .before .before .before .before .before .before .pre .1 .0) _ (c .before .before .before .before .before .before .before .before .pre .1 .1 .1 .0)
 
 same-length : tie.Need-same-length
 same-length c =
@@ -103,7 +105,7 @@ returns-2 : tie.Need-returns-2
 returns-2 c =
     let a = c .before .before .before .before .before .before .before .before .args in
     let p = c .before .before .before .before .before .before .before .before .pre in (
-      omega arith,
+      (p .0 .1, text-near _ _ _ (p .0 .0) (p .0 .1) (p .1 .0) _ (p .1 .1 .1 .0)),
       work-put (a .w .now) (a .g) (a .text .now) (a .k) (a .seq) (a .n) (p .0) (p .1 .1 .0) (p .1 .1 .1 .0) (p .1 .1 .1 .1 .0)
           (p .1 .1 .1 .1 .1) _ _ (rw (c .before .before .copy .ensures)
           (put-copied (a .w .now) (a .g) (a .text .now) (a .k) (a .seq) (a .n) (p .0) (p .1 .1 .0) (c .before .before .before .before .before .if1 .left))),

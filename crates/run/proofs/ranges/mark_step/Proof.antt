@@ -1,5 +1,5 @@
 -- Outside a set 24, a card that is not found 28, a range backwards 29; else the range that was found is marked.
-use native.Mathlib.Omega.{arith}
+use mathlib.Core.Path.{refl}
 use borrow.Author.Needs.{needs}
 use Rattle.run.proofs.Correcting.{not-taken, not-left}
 use Rattle.run.proofs.RangeAsking.{mark-off, mark-no-first, mark-no-last, mark-backwards, mark-on}
@@ -15,10 +15,10 @@ returns : tie.Need-returns
 returns c = let a = c .before .before .before .before .before .before .args in (tt, mark-off (a .w .now) (a .dir .now) (a .decks .now) (a .flags .now) (a .d) (a .was) (a .a) (a .b) _ _ (not-taken (a .d .set) (c .if1 .taken)))
 
 seek-card-requires : tie.Need-seek-card-requires
-seek-card-requires c κs = search needs
+seek-card-requires c κs = let p = c .before .before .before .before .before .before .before .pre in (p .0, p .1 .0)
 
 same-length : tie.Need-same-length
-same-length c = search needs
+same-length c = refl
 
 returns-2 : tie.Need-returns-2
 returns-2 c =
@@ -30,7 +30,7 @@ seek-last-requires : tie.Need-seek-last-requires
 seek-last-requires c κs = search needs
 
 same-length-2 : tie.Need-same-length-2
-same-length-2 c = search needs
+same-length-2 c = refl
 
 returns-3 : tie.Need-returns-3
 returns-3 c =
@@ -40,7 +40,7 @@ returns-3 c =
     (tt, mark-no-last (a .w .now) (a .dir .now) (a .decks .now) (a .flags .now) (a .d) (a .was) (a .a) (a .b) _ _ (not-left (a .d .set) (c .before .before .before .before .before .before .before .before .before .before .if1 .left)) (f .result) (f .ensures .1) (k .result) (k .ensures .1) (c .if3 .taken))
 
 same-length-3 : tie.Need-same-length-3
-same-length-3 c = search needs
+same-length-3 c = refl
 
 returns-4 : tie.Need-returns-4
 returns-4 c =
@@ -52,13 +52,13 @@ returns-4 c =
 mark-found-requires : tie.Need-mark-found-requires
 mark-found-requires c κs =
     let pre = c .before .before .before .before .before .before .before .before .before .before .before .before .before .before .before .before .before .before .before .before .before .pre in
-    (pre .0, (pre .1 .0, (search needs, (pre .1 .1 .1 .1, (c .before .before .if4 .left, c .before .before .before .before .before .if3 .left)))))
+    (pre .0, (pre .1 .0, (pre .1 .1 .1 .0, (pre .1 .1 .1 .1, (c .before .before .if4 .left, c .before .before .before .before .before .if3 .left)))))
 
 same-length-4 : tie.Need-same-length-4
-same-length-4 c = search needs
+same-length-4 c = c .before .before .before .before .mark-found .kept .0
 
 same-length-5 : tie.Need-same-length-5
-same-length-5 c = search needs
+same-length-5 c = c .before .before .before .before .mark-found .kept .1 .1 .1 .0
 
 returns-5 : tie.Need-returns-5
 returns-5 c =

@@ -1,11 +1,11 @@
 -- At the end of YANK$$$ the gap is opened, the card is put there, and the limits are tested by counts.
 use Prim.Native.Nat.{ℕ, _+_, _≤_}
-use native.Mathlib.Omega.{arith}
 use mathlib.Core.Path.{_≡_, sym, ap, _∙_, subst}
 use lib.ListN.{length}
 use borrow.Author.Needs.{needs}
 use Rattle.run.specs.Desk.{fitted, SaneAfter}
 use Rattle.run.specs.YankNames.{LeadAfter, PutsYank}
+use Rattle.run.proofs.Sums.{sum-order, order-on, room-place, card-fits, entry-below, entries-small, decks-small, next-below, next-number}
 use Rattle.run.proofs.Stepping.{number-after-is, fitted-sane}
 use Rattle.run.proofs.YankPutting.{yankDeskAt, yankDesk, lead-after, lead-over, yank-put}
 use Rattle.run.proofs.yanks.put_yank.Statement.{statement}
@@ -21,34 +21,30 @@ open-at-requires : tie.Need-open-at-requires
 open-at-requires c κs = search needs
 
 put-line-requires : tie.Need-put-line-requires
-put-line-requires c κs = search needs
+put-line-requires c κs =
+    let p = c .before .before .before .before .before .before .before .before .before .before .before .pre in
+    let o = c .before .before .before .open-at in
+    let h = o .result .hi in
+    ((o .ensures .0 .0, subst (λ (k : ℕ). h ≤ k) (sym (o .kept .0)) (o .ensures .0 .1)), (room-place _ (o .kept .0 ∙ p .room), (next-below _ _ (p .next) (p .cards), entry-below _ (p .entries))))
 
 add-t8 : tie.Need-add-t8
-add-t8 c =
-    let pre = c .before .before .before .before .before .before .before .before .before .before .before .before .before .before .before .pre in
-    record { fits = omega (arith, pre .cards, pre .yanks) }
+add-t8 c = let p = c .before .before .before .before .before .before .before .before .before .before .before .before .before .before .before .pre in card-fits _ (order-on _ _ _ (p .yanks) (p .cards))
 
 add-t16 : tie.Need-add-t16
-add-t16 c =
-    let pre = c .before .before .before .before .before .before .before .before .before .before .before .before .before .before .before .before .pre in
-    record { fits = omega (arith, pre .cards, pre .yanks) }
+add-t16 c = card-fits _ (c .before .before .before .before .before .before .before .before .before .before .before .before .before .before .before .before .pre .cards)
 
 add-t17 : tie.Need-add-t17
-add-t17 c =
-    let pre = c .before .before .before .before .before .before .before .before .before .before .before .before .before .before .before .before .before .pre in
-    record { fits = omega (arith, pre .cards, pre .yanks) }
+add-t17 c = let p = c .before .before .before .before .before .before .before .before .before .before .before .before .before .before .before .before .before .pre in card-fits _ (order-on _ _ _ (p .yanks) (p .cards))
 
 limited-requires : tie.Need-limited-requires
 limited-requires c κs =
-    let pre = c .before .before .before .before .before .before .before .before .before .before .before .before .before .before .before .before .before .pre in
-    let a = c .before .before .before .before .before .before .before .before .before .before .before .before .before .before .before .before .before .args in
-    let p = c .before .before .before .before .before .put-line .ensures .0 in
+    let p = c .before .before .before .before .before .before .before .before .before .before .before .before .before .before .before .before .before .pre in
     let o = c .before .before .before .before .before .before .before .before .before .open-at in
-    let same : length (o .last .0) ≡ length (a .w .now) = search needs in
-    (omega (arith, p .0, pre .room), (p .1, (omega (arith, pre .entries), omega (arith, pre .decks))))
+    let h = c .before .before .before .before .before .put-line .ensures .0 in
+    (order-on _ _ _ (h .0) (room-place _ (o .kept .0 ∙ p .room)), (h .1, (entries-small _ (p .entries), decks-small _ (p .decks))))
 
 same-length : tie.Need-same-length
-same-length c = search needs
+same-length c = c .before .before .before .before .before .before .put-line .kept .0 ∙ c .before .before .before .before .before .before .before .before .before .before .open-at .kept .0
 
 returns-2 : tie.Need-returns-2
 returns-2 c =
@@ -57,14 +53,14 @@ returns-2 c =
     let o = c .before .before .before .before .before .before .before .before .before .before .open-at in
     let n = c .before .before .before .before .before .before .before .before .before .before .before .before .before .number-after in
     let p = c .before .before .before .before .before .before .put-line in
-    let half : length (o .last .0) ≡ length (a .w .now) = search needs in
-    let same : length (p .last .0) ≡ length (a .w .now) = search needs in
+    let half : length (o .last .0) ≡ length (a .w .now) = o .kept .0 in
+    let same : length (p .last .0) ≡ length (a .w .now) = p .kept .0 ∙ half in
     let high : p .result .hi ≤ length (o .last .0) = p .ensures .0 .0 in
     let d = yankDesk (a .d) (p .result) in
-    let after : n .result ≡ a .d .next + 1 = n .ensures ∙ number-after-is (a .d .next) (omega (arith, pre .next, pre .cards)) in
+    let after : n .result ≡ a .d .next + 1 = n .ensures ∙ number-after-is (a .d .next) (next-number _ _ (pre .next) (pre .cards)) in
     let r = c .limited .ensures ∙ ap (λ (x : ℕ). fitted (yankDeskAt (a .d) (p .result) x)) after in (
       (
-        subst (SaneAfter (p .last .0)) (sym r) (fitted-sane (p .last .0) d (omega arith) (same ∙ pre .room) (omega (arith, pre .next)) (omega (arith, pre .yanks)) (omega (arith, pre .yanks))),
+        subst (SaneAfter (p .last .0)) (sym r) (fitted-sane (p .last .0) d (subst (λ (k : ℕ). p .result .hi ≤ k) (sym (p .kept .0)) high) (same ∙ pre .room) (sum-order _ _ 1 (pre .next)) (sum-order _ _ 1 (pre .yanks)) (sum-order _ _ 1 (pre .yanks))),
         subst LeadAfter (sym r) (lead-after (a .d) (p .result)),
       ),
       subst (PutsYank (a .w .now) (a .d) (a .line .now) (p .last .0)) (sym r)

@@ -9,6 +9,7 @@ use Rattle.words.specs.Base.{any}
 use Rattle.run.specs.Desk.{SaneAfter}
 use Rattle.run.specs.YankNames.{namesIn, unknownIn, noSetIn, LeadAfter, PutsYank}
 use Rattle.run.specs.declared.desk.Stepped.the-variants.{Went as SteppedOn, Refused as SteppedOff}
+use Rattle.run.proofs.Sums.{entry-place, deck-fits, decks-in}
 use Rattle.run.proofs.Correcting.{not-taken, not-left}
 use Rattle.run.proofs.YankTests.{yank-off, yank-unknown, yank-no-set, yank-on}
 use Rattle.run.proofs.yanks.yank_step.Statement.{statement}
@@ -20,13 +21,13 @@ returns c =
     (tt, yank-off (a .w .now) (a .dir .now) (a .names .now) (a .flags .now) (a .d) (a .line .now) _ _ (not-taken (a .d .set) (c .if1 .taken)))
 
 add-k : tie.Need-add-k
-add-k c = search needs
+add-k c = deck-fits _ (c .before .before .before .before .before .before .before .before .pre .0 .decks)
 
 field-of-requires : tie.Need-field-of-requires
 field-of-requires c κs = search needs
 
 any-unknown-requires : tie.Need-any-unknown-requires
-any-unknown-requires c κs = search needs
+any-unknown-requires c κs = entry-place _ _ (c .before .before .before .before .before .before .before .before .before .pre .0 .entries) (c .before .before .before .before .before .before .before .before .before .pre .1 .0)
 
 returns-2 : tie.Need-returns-2
 returns-2 c =
@@ -37,7 +38,7 @@ returns-2 c =
     (tt, yank-unknown (a .w .now) (a .dir .now) (a .names .now) (a .flags .now) (a .d) (a .line .now) _ _ set unknown)
 
 any-no-set-requires : tie.Need-any-no-set-requires
-any-no-set-requires c κs = search needs
+any-no-set-requires c κs = let p = c .before .before .before .before .before .before .before .before .before .before .before .pre in (entry-place _ _ (p .0 .entries) (p .1 .0), decks-in _ _ (p .0 .decks) (p .1 .1 .0))
 
 returns-3 : tie.Need-returns-3
 returns-3 c =
@@ -49,7 +50,7 @@ returns-3 c =
     (tt, yank-no-set (a .w .now) (a .dir .now) (a .names .now) (a .flags .now) (a .d) (a .line .now) _ _ set known barred)
 
 put-yank-requires : tie.Need-put-yank-requires
-put-yank-requires c κs = search needs
+put-yank-requires c κs = c .before .before .before .before .before .before .before .before .before .before .before .before .before .before .pre .0
 
 enum-known-e : tie.Need-enum-known-e
 enum-known-e c = search needs
@@ -65,10 +66,10 @@ enum-known-y : tie.Need-enum-known-y
 enum-known-y c = search needs
 
 same-length : tie.Need-same-length
-same-length c = search needs
+same-length c = c .before .before .before .before .resettle .kept .0 ∙ c .before .before .before .before .before .before .before .before .before .before .before .before .put-yank .kept .0
 
 same-length-2 : tie.Need-same-length-2
-same-length-2 c = search needs
+same-length-2 c = c .before .before .before .before .resettle .kept .1 .1 .0
 
 returns-4 : tie.Need-returns-4
 returns-4 c =
@@ -82,13 +83,13 @@ returns-4 c =
     let r = c .before .before .before .before .resettle in
     let e = c .before .before .before .before .before .before .before .before .e .given .1 in
     let sane = subst (SaneAfter (p .last .0)) e (p .ensures .0 .0) in
-    let same : length (r .last .0) ≡ length (p .last .0) = search needs in (
+    let same : length (r .last .0) ≡ length (p .last .0) = r .kept .0 in (
       record { ordered = (sane .ordered .0, omega (arith, sane .ordered .1)); room = same ∙ sane .room; entries = sane .entries; decks = sane .decks; cards = sane .cards; next = sane .next; yanks = sane .yanks; low = sane .low },
       yank-on (a .w .now) (a .dir .now) (a .names .now) (a .flags .now) (a .d) (a .line .now) (r .last .0) (r .last .1 .1 .0) set known free (p .last .0) (SteppedOn (c .before .before .before .before .before .before .before .before .e .given .0 .0)) (subst (PutsYank (a .w .now) (a .d) (a .line .now) (p .last .0)) e (p .ensures .1)) (same ∙ sane .room) (r .ensures),
     )
 
 same-length-3 : tie.Need-same-length-3
-same-length-3 c = search needs
+same-length-3 c = c .before .before .before .before .before .put-yank .kept .0
 
 returns-5 : tie.Need-returns-5
 returns-5 c =
@@ -100,7 +101,7 @@ returns-5 c =
     let free = ap (λ (f : List ℕ). any (noSetIn (a .d .entries) (take (a .d .entries) (a .dir .now)) (take (a .d .decks + 1) (a .names .now))) (namesIn f)) (sym field) ∙ sym (c .before .before .before .before .before .before .before .before .any-no-set .ensures) ∙ c .before .before .before .before .before .before .before .if3 .left in
     let p = c .before .before .before .before .before .put-yank in
     let e = c .before .y .given .1 in
-    let same : length (p .last .0) ≡ length (a .w .now) = search needs in (
+    let same : length (p .last .0) ≡ length (a .w .now) = p .kept .0 in (
       tt,
       yank-on (a .w .now) (a .dir .now) (a .names .now) (a .flags .now) (a .d) (a .line .now) (p .last .0) (a .flags .now) set known free (p .last .0) (SteppedOff (c .before .y .given .0 .0)) (subst (PutsYank (a .w .now) (a .d) (a .line .now) (p .last .0)) e (p .ensures .1)) (same ∙ pre .0 .room) tt,
     )

@@ -2,16 +2,14 @@
 use borrow.Author.Needs.{needs}
 use Prim.Native.Nat.{_+_, _-_, _≤_}
 use native.Mathlib.Omega.{arith}
-use mathlib.Core.Path.{_≡_, refl, sym}
-use mathlib.Core.List.{append-nil}
-use lib.ListN.{length, drop, replicate, length-set}
-use Rattle.text.proofs.Putting.{Put, put-more}
-use Rattle.text.proofs.Filling.{beyond-more}
+use mathlib.Core.Path.{_≡_, refl}
+use lib.ListN.{length, replicate, length-set}
+use Rattle.text.proofs.Placing.{Placed, placed-none, placed-more}
 use Rattle.text.proofs.columns.put_columns.Statement.{statement}
 use Rattle.text.proofs.columns.put_columns.Tie as tie
 
 abbrev Inv-loop : tie.InvT-loop
-Inv-loop b n line₀ at end i₀ line i = (at ≤ i) × ((i ≤ end) × ((length line ≡ length line₀) × (Put (replicate (i - at) b) line₀ at line i × (drop i line ≡ drop i line₀))))
+Inv-loop b n line₀ at end i₀ line i = (at ≤ i) × ((i ≤ end) × ((length line ≡ length line₀) × Placed (replicate (i - at) b) line₀ at line i))
 
 abbrev μ-loop : tie.MeasureT-loop
 μ-loop b n line₀ at end i₀ line i = end - i
@@ -22,7 +20,7 @@ add-end c = search needs
 loop-holds : tie.Need-loop-holds Inv-loop μ-loop
 loop-holds c =
     let z : c .args .at - c .args .at ≡ 0 = omega arith in
-    (omega arith, (omega arith, (refl, (rw z (omega arith, sym (append-nil _)), refl))))
+    (omega arith, (omega arith, (refl, rw z (placed-none (c .args .line .now) (c .args .at)))))
 
 slice-write-line : tie.Need-slice-write-line Inv-loop μ-loop
 slice-write-line c = search needs
@@ -38,7 +36,7 @@ loop-again c =
     let l = c .before .loop in
     let a = c .before .before .args in
     let e : l .i + 1 - a .at ≡ l .i - a .at + 1 = omega arith in
-    (omega arith, (omega arith, (simp length-set (l .inv .1 .1 .0), (rw e (put-more (a .b) (l .i - a .at) (a .line .now) (l .line) (a .at) (l .i) (omega arith) (l .inv .1 .1 .1 .0)), beyond-more (a .line .now) (l .line) (l .i) (a .b) (l .inv .1 .1 .1 .1)))))
+    (omega arith, (omega arith, (simp length-set (l .inv .1 .1 .0), rw e (placed-more (a .b) (l .i - a .at) (a .line .now) (l .line) (a .at) (l .i) (omega arith) (l .inv .1 .1 .1)))))
 
 same-length : tie.Need-same-length Inv-loop μ-loop
 same-length c = search needs
@@ -48,7 +46,7 @@ returns c =
     let l = c .before .loop in
     let a = c .before .before .args in
     let e : l .i - a .at ≡ a .n = omega arith in
-    (omega arith, (rw e at (l .inv .1 .1 .1 .0 .1), l .inv .1 .1 .1 .1))
+    (omega arith, (rw e at (l .inv .1 .1 .1 .1 .0), l .inv .1 .1 .1 .1 .1))
 
 pub put-columns-spec : {M : Type 1} → statement M
 put-columns-spec =

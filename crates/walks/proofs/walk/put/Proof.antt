@@ -1,7 +1,8 @@
 -- A line that fits stands in its own stretch, with the owner's name from the directory.
-use Prim.Native.Nat.{ℕ}
+use Prim.Native.Nat.{ℕ, _+_, _-_, _*_}
+use borrow.Rule.Slice.PartMut.{midOf}
 use mathlib.Core.Path.{ap, _∙_}
-use Rattle.walks.specs.Lines.{lineOf}
+use Rattle.print.specs.Lines.{lineInto}
 use Rattle.walks.proofs.Putting.{put-full, put-counted, put-written}
 use borrow.Author.Tests.{not-true, not-false}
 use borrow.Author.Needs.{needs}
@@ -26,20 +27,20 @@ add-word-at c = search needs
 word-at-requires : tie.Need-word-at-requires
 word-at-requires c κs = search needs
 
-add-put-line : tie.Need-add-put-line
-add-put-line c = search needs
+add-print-line : tie.Need-add-print-line
+add-print-line c = search needs
 
-sub-put-line : tie.Need-sub-put-line
-sub-put-line c = search needs
+sub-print-line : tie.Need-sub-print-line
+sub-print-line c = search needs
 
-part-put-line-start : tie.Need-part-put-line-start
-part-put-line-start c = search needs
+part-print-line-start : tie.Need-part-print-line-start
+part-print-line-start c = search needs
 
-part-put-line-end : tie.Need-part-put-line-end
-part-put-line-end c = search needs
+part-print-line-end : tie.Need-part-print-line-end
+part-print-line-end c = search needs
 
-put-line-requires : tie.Need-put-line-requires
-put-line-requires c κs = search needs
+print-line-requires : tie.Need-print-line-requires
+print-line-requires c κs = search needs
 
 add-t10 : tie.Need-add-t10
 add-t10 c = search needs
@@ -50,8 +51,9 @@ same-length c = search needs
 returns-3 : tie.Need-returns-3
 returns-3 c =
     let a = c .before .before .before .before .before .before .before .before .before .before .args in
-    let named = ap (λ (n : ℕ). lineOf (a .line .now) n (a .c .seq)) (c .before .before .before .before .word-at .ensures) in
-    put-written (a .writes) _ (a .lines) (a .calls) (a .out .now) _ (c .before .before .before .before .before .before .if1 .left) (not-false _ (c .before .before .before .before .before .if2 .left)) (c .before .before .put-line .ensures ∙ named)
+    let stretch = midOf (a .lines * 91) (a .lines * 91 + 91 - a .lines * 91) (a .out .now) in
+    let named = ap (λ (n : ℕ). lineInto (a .line .now) n (a .c .seq) stretch) (c .before .before .before .before .word-at .ensures) in
+    put-written (a .writes) _ (a .lines) (a .calls) (a .out .now) _ stretch (c .before .before .before .before .before .before .if1 .left) (not-false _ (c .before .before .before .before .before .if2 .left)) (search needs) (search needs) (c .before .before .print-line .ensures ∙ named)
 
 pub put-spec : {M : Type 1} → statement M
 put-spec =
@@ -63,11 +65,11 @@ put-spec =
     mul-at
     add-word-at
     word-at-requires
-    add-put-line
-    sub-put-line
-    part-put-line-start
-    part-put-line-end
-    put-line-requires
+    add-print-line
+    sub-print-line
+    part-print-line-start
+    part-print-line-end
+    print-line-requires
     add-t10
     same-length
     returns-3)

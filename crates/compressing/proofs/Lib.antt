@@ -1,0 +1,4 @@
+pub mod Putting
+pub mod Squeezing
+pub mod Filling
+pub mod Answers

@@ -1,0 +1,5 @@
+pub mod Asking
+pub mod Titled
+pub mod Rows
+pub mod Writing
+pub mod Ending
