@@ -23,88 +23,29 @@ struct Asked {
     fourth: u64,
 }
 
+fn asks(kind: u64, count: usize, first: u64, second: u64, third: u64, fourth: u64) -> Asked {
+    Asked {
+        kind: kind,
+        count: count,
+        first: first,
+        second: second,
+        third: third,
+        fourth: fourth,
+    }
+}
+
 fn told(l: Line) -> Asked {
     match l {
-        Line::Skipped => Asked {
-            kind: 1,
-            count: 0,
-            first: 0,
-            second: 0,
-            third: 0,
-            fourth: 0,
-        },
-        Line::Deck(w) => Asked {
-            kind: 2,
-            count: 1,
-            first: w,
-            second: 0,
-            third: 0,
-            fourth: 0,
-        },
-        Line::Comdeck(w) => Asked {
-            kind: 3,
-            count: 1,
-            first: w,
-            second: 0,
-            third: 0,
-            fourth: 0,
-        },
-        Line::Ident(w) => Asked {
-            kind: 4,
-            count: 1,
-            first: w,
-            second: 0,
-            third: 0,
-            fourth: 0,
-        },
-        Line::Insert(c) => Asked {
-            kind: 5,
-            count: 2,
-            first: c.name,
-            second: c.seq,
-            third: 0,
-            fourth: 0,
-        },
-        Line::Before(c) => Asked {
-            kind: 6,
-            count: 2,
-            first: c.name,
-            second: c.seq,
-            third: 0,
-            fourth: 0,
-        },
-        Line::Delete(a, b) => Asked {
-            kind: 7,
-            count: 4,
-            first: a.name,
-            second: a.seq,
-            third: b.name,
-            fourth: b.seq,
-        },
-        Line::Restore(a, b) => Asked {
-            kind: 8,
-            count: 4,
-            first: a.name,
-            second: a.seq,
-            third: b.name,
-            fourth: b.seq,
-        },
-        Line::Yank => Asked {
-            kind: YANK,
-            count: 0,
-            first: 0,
-            second: 0,
-            third: 0,
-            fourth: 0,
-        },
-        _ => Asked {
-            kind: TEXT,
-            count: 0,
-            first: 0,
-            second: 0,
-            third: 0,
-            fourth: 0,
-        },
+        Line::Skipped => asks(1, 0, 0, 0, 0, 0),
+        Line::Deck(w) => asks(2, 1, w, 0, 0, 0),
+        Line::Comdeck(w) => asks(3, 1, w, 0, 0, 0),
+        Line::Ident(w) => asks(4, 1, w, 0, 0, 0),
+        Line::Insert(c) => asks(5, 2, c.name, c.seq, 0, 0),
+        Line::Before(c) => asks(6, 2, c.name, c.seq, 0, 0),
+        Line::Delete(a, b) => asks(7, 4, a.name, a.seq, b.name, b.seq),
+        Line::Restore(a, b) => asks(8, 4, a.name, a.seq, b.name, b.seq),
+        Line::Yank => asks(YANK, 0, 0, 0, 0, 0),
+        _ => asks(TEXT, 0, 0, 0, 0, 0),
     }
 }
 

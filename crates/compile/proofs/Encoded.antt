@@ -4,23 +4,22 @@
 --   its decks    decks-at
 --   the image    image-table, view-plain, image-answers
 --   the check    compile-sound, compile-refused
-use Prim.Native.Nat.{ℕ, zero, suc, _+_, _-_, _*_, _/_, _%_, _^_, _≤_, _<_}
+use Prim.Native.Nat.{ℕ, zero, suc, _+_, _-_, _*_, _%_, _^_, _≤_, _<_}
 use native.Mathlib.Omega.{arith}
 use mathlib.Core.Path.{_≡_, refl, sym, ap, _∙_, subst}
 use mathlib.Core.Bool.{Bool, true, false, _&&_, _||_, not}
 use mathlib.Core.List.{List, [], _∷_, _++_, append-assoc}
-use lib.Dec.{T, eqb, leb→le}
-use lib.ListN.{length, getD, drop, length-append, length-drop, length-map, List·getD-append}
-use lib.Seq.{drop-at}
+use lib.Dec.{T, eqb}
+use lib.ListN.{length, getD, drop, length-append, length-drop, List·getD-append}
 use Rattle.words.specs.Base.{if_then_else_}
 use Rattle.words.specs.Names.{isNameWord}
 use Rattle.library.specs.Each.{Each}
 use Rattle.library.specs.Library.{Card, Deck, Library, history, deckCard, nameAt, deckNames, purged, reserved}
 use Rattle.library.specs.Yanks.{active, yanked}
-use Rattle.library.specs.Image.{cardWords, cardsWords, decksWords, counts, tables, encode, limitTests, withinLimits}
+use Rattle.library.specs.Image.{cardWords, cardsWords, decksWords, tables, encode}
 use Rattle.library.specs.Check.{cardsPlace, Checking, good, bad, check, checked}
 use Rattle.library.specs.Sound.{isNamed, SoundCard, SoundDeck, Sound}
-use Rattle.library.proofs.Each.{all-each, allOf-each}
+use Rattle.library.proofs.Each.{all-each}
 use Rattle.library.proofs.EntryNames.{is-named}
 use Rattle.library.proofs.WordsFit.{entry-sound}
 use Rattle.library.proofs.CheckEncode.{check-encode}
@@ -29,8 +28,9 @@ use Rattle.image.specs.Places.{nextAt, seenAt}
 use Rattle.image.proofs.Written.{inside, next-is, after, some-words, owner-is, seq-is, active-is, line-is}
 use Rattle.decks.specs.Decks.{titleOf, isTitle, named, deckEnd, rowOf, rowsIn, tableOf}
 use Rattle.decks.proofs.Titled.{titleAt, titled, title-is}
-use Rattle.decks.proofs.Rows.{end-here, end-past, rows-here, rows-end, rows-skip, tables-all}
+use Rattle.decks.proofs.Rows.{rows-here, rows-end, rows-skip, tables-all}
 use Rattle.decks.proofs.Ending.{stands-first, cards-end, cards-after}
+use Rattle.decks.proofs.Encoded.{decks-begin, few, encoded, place-is, whole, decks-stand, yanks-end}
 use Rattle.walks.specs.View.{DeckView, shownCard, shown, viewDecks, view}
 use Rattle.walks.specs.TableView.{shownOf, consIf, shownIn, tableView}
 use Rattle.library.specs.declared.Fault.{Fault}
@@ -80,7 +80,6 @@ module _ (directory ws : List ℕ) (entries : length directory ≤ 1023)
 
   -- DECKS up to the image's end
   record Decks (yk : ℕ → ℕ → Bool) (ds : List Deck) (at : ℕ) : Type 0 where
-    begins : deckEnd ws at ≡ at
     rows : tableView ws (rowsIn ws at) ≡ viewDecks yk directory ds
     count : length (rowsIn ws at) ≡ length ds * 4
 
@@ -96,7 +95,6 @@ module _ (directory ws : List ℕ) (entries : length directory ≤ 1023)
       let z : length (drop at ws) ≡ 0 = ap length e in
       let s : length ws ≤ at = omega (arith, length-drop at ws) in
       record {
-        begins = end-past ws at s ∙ omega arith;
         rows = ap (tableView ws) (rows-end ws at s);
         count = ap length (rows-end ws at s);
       }
@@ -118,14 +116,13 @@ module _ (directory ws : List ℕ) (entries : length directory ≤ 1023)
       let on : Decks yk ds end = decks-at yk ds (h .1) end (omega arith) past in
       let t : titleAt ws at ≡ named (d .common) (nameAt directory (d .number)) = title-is directory ws entries y c (s .first) at r f ∙ ap titleOf (s .title) in
       let is : isTitle (titleAt ws at) ≡ true = ap isTitle t ∙ titled (d .common) (nameAt directory (d .number)) in
-      let stop : deckEnd ws next ≡ end = cards-end ws y more directory entries (d .cards) (s .cards) (s .others) next end g refl (on .begins) in
+      let stop : deckEnd ws next ≡ end = cards-end ws y more directory entries (d .cards) (s .cards) (s .others) next end g refl (decks-begin directory ws entries yk ds (h .1) end (omega arith) past) in
       let rest : rowsIn ws next ≡ rowsIn ws end = rows-skip ws next ∙ ap (rowsIn ws) stop in
       let row : rowsIn ws at ≡ rowOf (named (d .common) (nameAt directory (d .number))) next end ++ rowsIn ws end =
       rows-here ws at i is ∙ (λ j. rowOf (t j) next (stop j) ++ rest j) in
       let lines : shownIn ws next end ≡ shown y directory (d .cards) = cards-shown y more (d .cards) (s .cards) next end g refl in
       let tail : tableView ws (rowsIn ws end) ≡ viewDecks yk directory ds = on .rows in
       record {
-        begins = end-here ws at i is;
         rows =
             ap (tableView ws) row ∙ title-row (d .common) (nameAt directory (d .number)) next end (rowsIn ws end)
             ∙ (λ j. record { name = nameAt directory (d .number); common = d .common; lines = lines j } ∷ tail j);
@@ -145,43 +142,12 @@ module _ (l : Library) (s : Sound l) where
   abbrev body : List ℕ
   body = cardsWords (yk 0) (l .yanks) ++ decksWords yk (l .decks)
 
-  few : (length (l .directory) ≤ 1023) × (length (l .decks) ≤ 254)
-  unfolding withinLimits
-  few =
-      let q = allOf-each (limitTests l) (s .limits) in
-      let d : suc (length (l .decks)) ≤ 255 = leb→le (suc (length (l .decks))) 255 (q .1 .0) in
-      (leb→le (length (l .directory)) 1023 (q .0), omega arith)
-
-  names-long : length (deckNames l) ≡ suc (length (l .decks))
-  unfolding deckNames
-  names-long = ap suc (length-map (l .decks) (λ d. nameAt (l .directory) (d .number)))
-
-  tables-long : length (tables l) ≡ 2 + (length (l .directory) + suc (length (l .decks)))
-  tables-long = ap (λ (n : ℕ). suc (suc n)) (length-append (l .directory) (deckNames l)) ∙ omega (arith, names-long)
-
-  encoded : encode l ≡ tables l ++ body
-  unfolding encode
-  encoded = refl
-
-  place-is : cardsPlace (encode l) ≡ length (tables l)
-  place-is =
-      let w : getD (encode l) 1 0 ≡ counts l = ap (λ (ws : List ℕ). getD ws 1 0) encoded in
-      let a : counts l / 2 ^ 18 ≡ length (l .directory) = omega (arith, few) in
-      let b : counts l % 2 ^ 18 ≡ suc (length (l .decks)) = omega (arith, few) in
-      ap (λ (n : ℕ). 2 + n / 2 ^ 18 + n % 2 ^ 18) w ∙ omega (arith, tables-long, a, b)
-
-  stands : drop (length (tables l)) (encode l) ≡ body
-  stands = ap (drop (length (tables l))) encoded ∙ drop-at (tables l) body (length (tables l)) refl
-
-  whole : length (encode l) ≡ length (tables l) + length body
-  whole = ap length encoded ∙ length-append (tables l) body
-
   names-at : (n : ℕ) → 0 < n → n ≤ length (l .directory) → getD (encode l) (n + 1) 0 ≡ nameAt (l .directory) n
   names-at zero h k = absurd (omega arith)
   names-at (suc n) h k =
       let i : suc n + 1 ≡ suc (suc n) = omega arith in
       let j : suc n - 1 ≡ n = omega arith in
-      ap (λ (m : ℕ). getD (encode l) m 0) i ∙ ap (λ (ws : List ℕ). getD ws (suc (suc n)) 0) encoded
+      ap (λ (m : ℕ). getD (encode l) m 0) i ∙ ap (λ (ws : List ℕ). getD ws (suc (suc n)) 0) (encoded l s)
       ∙ ap (λ (r : List ℕ). getD r n 0) (append-assoc (l .directory) (deckNames l) body)
       ∙ List·getD-append (l .directory) (deckNames l ++ body) 0 n (omega arith) ∙ ap (λ (m : ℕ). getD (l .directory) m 0) (sym j)
 
@@ -191,14 +157,11 @@ module _ (l : Library) (s : Sound l) where
       let ws : List ℕ = encode l in
       let at : ℕ = length (tables l) in
       let end : ℕ = at + length (cardsWords (yk 0) (l .yanks)) in
-      let past : drop end ws ≡ decksWords yk (l .decks) = cards-after ws (yk 0) (decksWords yk (l .decks)) (l .yanks) at end stands refl in
-      let n : length body ≡ length (cardsWords (yk 0) (l .yanks)) + length (decksWords yk (l .decks)) = length-append (cardsWords (yk 0) (l .yanks)) (decksWords yk (l .decks)) in
-      let ds = decks-at (l .directory) ws (few .0) names-at yk (l .decks) (s .decks) end (omega (arith, whole)) past in
-      let stop : deckEnd ws at ≡ end = cards-end ws (yk 0) (decksWords yk (l .decks)) (l .directory) (few .0) (l .yanks) (s .yanks) (s .others) at end stands refl (ds .begins) in
-      let rows : rowsIn ws (cardsPlace ws) ≡ rowsIn ws end = ap (rowsIn ws) place-is ∙ rows-skip ws at ∙ ap (rowsIn ws) stop in
+      let ds = decks-at (l .directory) ws (few l s .0) names-at yk (l .decks) (s .decks) end (omega (arith, whole l s)) (decks-stand l s) in
+      let rows : rowsIn ws (cardsPlace ws) ≡ rowsIn ws end = ap (rowsIn ws) (place-is l s) ∙ rows-skip ws at ∙ ap (rowsIn ws) (yanks-end l s) in
       record {
-        place = omega (arith, place-is, whole);
-        count = omega (arith, ap length rows, ds .count, few);
+        place = omega (arith, place-is l s, whole l s);
+        count = omega (arith, ap length rows, ds .count, few l s);
         is = ap (tableView ws) rows ∙ ds .rows;
       }
 

@@ -3,3 +3,4 @@ pub mod Titled
 pub mod Rows
 pub mod Writing
 pub mod Ending
+pub mod Encoded

@@ -1,87 +1,25 @@
--- Where the cards of YANK$$$ stand in the words of a sound library. Assumes nothing.
---   place-is        the cards start after the tables
---   decks-begin     where decks stand, the next deck card is there
+-- The words of YANK$$$ in the image of a sound library. Assumes nothing.
 --   yanks-part      the words ahead of the first deck card are those of the cards of YANK$$$
-use Prim.Native.Nat.{ℕ, suc, _+_, _-_, _/_, _%_, _^_, _≤_}
+use Prim.Native.Nat.{ℕ, _+_, _-_}
 use native.Mathlib.Omega.{arith}
 use mathlib.Core.Path.{_≡_, refl, ap, _∙_}
-use mathlib.Core.Bool.{Bool, true}
-use mathlib.Core.List.{List, [], _∷_, _++_, append-assoc}
-use lib.Dec.{leb→le}
-use lib.ListN.{length, getD, take, drop, length-append, length-drop, length-map}
-use lib.Seq.{take-at, drop-at}
-use Rattle.library.specs.Each.{Each}
-use Rattle.library.specs.Library.{Deck, Library, deckCard, nameAt, deckNames}
+use mathlib.Core.List.{List}
+use lib.ListN.{length, take, drop}
+use lib.Seq.{take-at}
+use Rattle.library.specs.Library.{Library}
 use Rattle.library.specs.Yanks.{yanked}
-use Rattle.library.specs.Image.{cardWords, cardsWords, decksWords, counts, tables, encode, limitTests, withinLimits}
+use Rattle.library.specs.Image.{cardsWords, decksWords, tables, encode}
 use Rattle.library.specs.Check.{cardsPlace}
-use Rattle.library.specs.Sound.{SoundDeck, Sound}
-use Rattle.library.proofs.Each.{allOf-each}
+use Rattle.library.specs.Sound.{Sound}
 use Rattle.yanked.specs.Bytes.{part}
-use Rattle.image.proofs.Written.{inside}
-use Rattle.decks.specs.Decks.{titleOf, isTitle, deckEnd}
-use Rattle.decks.proofs.Titled.{titleAt, titled, title-is}
-use Rattle.decks.proofs.Rows.{end-here, end-past}
-use Rattle.decks.proofs.Ending.{cards-end, cards-after}
+use Rattle.decks.specs.Decks.{deckEnd}
+use Rattle.decks.proofs.Encoded.{place-is, stands, yanks-end}
 
-pub decks-begin : (directory ws : List ℕ) → length directory ≤ 1023 → (yk : ℕ → ℕ → Bool) (ds : List Deck) → Each (SoundDeck directory) ds → (at : ℕ) → at ≤ length ws
-    → drop at ws ≡ decksWords yk ds → deckEnd ws at ≡ at
-decks-begin directory ws few yk [] h at l e =
-    let z : length (drop at ws) ≡ 0 = ap length e in
-    let s : length ws ≤ at = omega (arith, length-drop at ws) in
-    end-past ws at s ∙ omega arith
-decks-begin directory ws few yk (d ∷ ds) h at l e =
-    let y : (ℕ → Bool) = yk (d .number) in
-    let r : List ℕ = cardsWords y (d .cards) ++ decksWords yk ds in
-    let f : drop at ws ≡ cardWords y (deckCard d) ++ r = e ∙ append-assoc (cardWords y (deckCard d)) (cardsWords y (d .cards)) (decksWords yk ds) in
-    let t : isTitle (titleAt ws at) ≡ true =
-    ap isTitle (title-is directory ws few y (deckCard d) (h .0 .first) at r f ∙ ap titleOf (h .0 .title)) ∙ titled (d .common) (nameAt directory (d .number)) in
-    end-here ws at (inside directory ws few y (deckCard d) (h .0 .first) at r f) t
-
-module _ (l : Library) (s : Sound l) where
-  abbrev ws : List ℕ
-  ws = encode l
-
-  abbrev yanks : List ℕ
-  yanks = cardsWords (yanked l 0) (l .yanks)
-
-  abbrev decks : List ℕ
-  decks = decksWords (yanked l) (l .decks)
-
-  few : (length (l .directory) ≤ 1023) × (length (l .decks) ≤ 254)
-  unfolding withinLimits
-  few =
-      let q = allOf-each (limitTests l) (s .limits) in
-      let d : suc (length (l .decks)) ≤ 255 = leb→le (suc (length (l .decks))) 255 (q .1 .0) in
-      (leb→le (length (l .directory)) 1023 (q .0), omega arith)
-
-  names-long : length (deckNames l) ≡ suc (length (l .decks))
-  unfolding deckNames
-  names-long = ap suc (length-map (l .decks) (λ d. nameAt (l .directory) (d .number)))
-
-  tables-long : length (tables l) ≡ 2 + (length (l .directory) + suc (length (l .decks)))
-  tables-long = ap (λ (n : ℕ). suc (suc n)) (length-append (l .directory) (deckNames l)) ∙ omega (arith, names-long)
-
-  encoded : ws ≡ tables l ++ (yanks ++ decks)
-  unfolding encode
-  encoded = refl
-
-  pub place-is : cardsPlace ws ≡ length (tables l)
-  place-is =
-      let w : getD ws 1 0 ≡ counts l = ap (λ (x : List ℕ). getD x 1 0) encoded in
-      let a : counts l / 2 ^ 18 ≡ length (l .directory) = omega (arith, few) in
-      let b : counts l % 2 ^ 18 ≡ suc (length (l .decks)) = omega (arith, few) in
-      ap (λ (n : ℕ). 2 + n / 2 ^ 18 + n % 2 ^ 18) w ∙ omega (arith, tables-long, a, b)
-
-  pub yanks-part : part (cardsPlace ws) (deckEnd ws (cardsPlace ws)) ws ≡ yanks
-  yanks-part =
-      let at : ℕ = length (tables l) in
-      let end : ℕ = at + length yanks in
-      let stands : drop at ws ≡ yanks ++ decks = ap (drop at) encoded ∙ drop-at (tables l) (yanks ++ decks) at refl in
-      let whole : length ws ≡ at + length (yanks ++ decks) = ap length encoded ∙ length-append (tables l) (yanks ++ decks) in
-      let past : drop end ws ≡ decks = cards-after ws (yanked l 0) decks (l .yanks) at end stands refl in
-      let begins : deckEnd ws end ≡ end = decks-begin (l .directory) ws (few .0) (yanked l) (l .decks) (s .decks) end (omega (arith, whole, length-append yanks decks)) past in
-      let stop : deckEnd ws at ≡ end = cards-end ws (yanked l 0) decks (l .directory) (few .0) (l .yanks) (s .yanks) (s .others) at end stands refl begins in
-      let long : end - at ≡ length yanks = omega arith in
-      ap (λ (n : ℕ). part n (deckEnd ws n) ws) place-is ∙ ap (λ (n : ℕ). part at n ws) stop ∙ ap (λ (n : ℕ). take n (drop at ws)) long
-      ∙ ap (take (length yanks)) stands ∙ take-at yanks decks (length yanks) refl
+pub yanks-part : (l : Library) → Sound l → part (cardsPlace (encode l)) (deckEnd (encode l) (cardsPlace (encode l))) (encode l) ≡ cardsWords (yanked l 0) (l .yanks)
+yanks-part l s =
+    let ws : List ℕ = encode l in
+    let yanks : List ℕ = cardsWords (yanked l 0) (l .yanks) in
+    let at : ℕ = length (tables l) in
+    let long : at + length yanks - at ≡ length yanks = omega arith in
+    ap (λ (n : ℕ). part n (deckEnd ws n) ws) (place-is l s) ∙ ap (λ (n : ℕ). part at n ws) (yanks-end l s) ∙ ap (λ (n : ℕ). take n (drop at ws)) long
+    ∙ ap (take (length yanks)) (stands l s) ∙ take-at yanks (decksWords (yanked l) (l .decks)) (length yanks) refl
