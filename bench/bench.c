@@ -1,30 +1,22 @@
 /* How long the engine takes, in yardsticks: a yardstick is a plain copy loop, in this program, over as many words. So the figures mean the same on
  * every machine, and under an emulator. bench/run builds and runs this in the folder above. */
 #define _POSIX_C_SOURCE 199309L
+#include "corpus.h"
 #include "galdwist.h"
-#include "images.h"
-#include <stdio.h>
-#include <stdlib.h>
-#include <string.h>
 #include <time.h>
 
-enum { STREAM = 262144, LINE = 91, LINES = 16384, LEAST = 3, MOST = 200, DECKS = 50 };
+enum { LINE = 91, LINES = 16384, LEAST = 3, MOST = 200 };
 static const double ENOUGH = 0.25, SHORTEST = 200e-6;
-
-static void stop(const char *what, const char *which) {
-    fprintf(stderr, "bench: %s %s\n", what, which);
-    exit(2);
-}
 
 /* ---- what is timed */
 
-enum op { COPY, PACK, UNPACK, CHECK, RUN, COMPILE };
+enum op { COPY, PACK, UNPACK, CHECK, RUN, COMPILE, MERGE };
 
-/* A call: of a library, for RUN with a stream; COPY takes n words of it. */
+/* A call: of a library, for RUN with a stream of n bytes, for MERGE with a second library; COPY takes n words. */
 struct job {
     enum op op;
     const struct library *library;
-    const uint8_t *stream;
+    const void *with;
     size_t n;
 };
 
@@ -53,9 +45,13 @@ static uint64_t call(const struct job *j) {
     case CHECK:
         return galdwist_check(l->words, l->n, &first);
     case RUN:
-        return galdwist_run(l->words, l->n, j->stream, j->n, space, WORDS, &first);
+        return galdwist_run(l->words, l->n, j->with, j->n, space, WORDS, &first);
     case COMPILE:
         return galdwist_compile(l->words, l->n, file, sizeof file, &first, &second);
+    case MERGE: {
+        const struct library *behind = j->with;
+        return galdwist_merge(l->words, l->n, behind->words, behind->n, space, WORDS, &first, &second);
+    }
     }
     return 99;
 }
@@ -105,21 +101,8 @@ static struct measure measured(const struct job *j, size_t words) {
 
 /* ---- the corpus */
 
-struct stream {
-    uint8_t bytes[STREAM];
-    size_t n;
-};
-
 static struct stream create_1, create_2, sets, made;
 static struct library fresh, quarter, half, full, corrected, other;
-
-static void load(const char *path, struct stream *s) {
-    FILE *in = fopen(path, "rb");
-    if (in == NULL)
-        stop("cannot read", path);
-    s->n = fread(s->bytes, 1, sizeof s->bytes, in);
-    fclose(in);
-}
 
 /* The place of the unit with an index from 0; the stream's end where there is none. */
 static size_t unit_at(const struct stream *s, const char *name, size_t index) {
@@ -184,7 +167,7 @@ static void growth(void) {
     for (enum op op = PACK; op <= COMPILE; op++) {
         struct job jobs[3];
         for (int i = 0; i < 3; i++)
-            jobs[i] = (struct job){op, sizes[i], (const uint8_t *)small_set, sizeof small_set - 1};
+            jobs[i] = (struct job){op, sizes[i], small_set, sizeof small_set - 1};
         growth_row(names[op], jobs);
     }
 }
@@ -202,6 +185,24 @@ static void corpus(void) {
     struct job file_of_base = {COMPILE, &full, NULL, 0}, file_of_all = {COMPILE, &corrected, NULL, 0};
     row("compile without the sets, 13,000 lines", file_of_base, full.n, 60 + 15 * yardstick(13000 * LINE / 8) / yardstick(full.n));
     row("compile, 15,000 lines", file_of_all, n, 60 + 15 * yardstick(15000 * LINE / 8) / yardstick(n));
+}
+
+/* The second pair, made one. The bar is two checks and ten yardsticks of the words written. */
+static void merge(void) {
+    static struct making making;
+    static struct library pair[2];
+    static const char *const names[] = {"check of the first", "check of the second"};
+    double checks = 0;
+    head("two libraries with sets of their own");
+    for (int i = 0; i < 2; i++) {
+        make_streams(i, &making);
+        run(&fresh, &making.creation, making.creation.n, &other);
+        run(&other, &making.sets, making.sets.n, &pair[i]);
+        checks += row(names[i], (struct job){CHECK, &pair[i], NULL, 0}, pair[i].n, 0).took;
+    }
+    size_t n = pair[0].n + pair[1].n - fresh.n;
+    struct measure m = row("merge", (struct job){MERGE, &pair[0], &pair[1], 0}, n, 10 + checks / yardstick(n));
+    printf("      without the two checks: %.1f us, %.1f yardsticks\n", (m.took - checks) * 1e6, (m.took - checks) / m.took * m.ratio);
 }
 
 /* The check at 1,000, 4,000 and 16,000 cards: nanoseconds a card, and how much more a card costs, or a word in yardsticks, in the largest. */
@@ -229,12 +230,8 @@ static void checks(void) {
 
 /* Adds a line to the stream being made. */
 static void line(const char *text) {
-    size_t n = strlen(text);
-    if (made.n + n + 1 > sizeof made.bytes)
-        stop("a stream too long:", text);
-    memcpy(made.bytes + made.n, text, n);
-    made.n += n;
-    made.bytes[made.n++] = 10;
+    add(&made, text);
+    add(&made, "\n");
 }
 
 static void run_row(const char *name) {
@@ -285,6 +282,7 @@ int main(void) {
            corrected.n, yardstick(corrected.n) * 1e6, yardstick(corrected.n) / (double)corrected.n * 1e9);
     growth();
     corpus();
+    merge();
     checks();
     runs();
     return 0;

@@ -17,6 +17,7 @@
 
 enum { DONE, REFUSED, FAILED };
 enum { LAST_OF_LIBRARY = 10, NO_ROOM = 44 };        /* 01's rows: up to the one the library is at fault; at the other a compile wants more room */
+enum { FIRST_ENTRY = 2, NAME = 9 };                 /* the word of an image where its directory starts; the columns of a name in a row of it */
 enum { FIRST_ROOM = 1 << 20 };                      /* bytes lent to a compile at first */
 enum { FIRST_READ = 1 << 16, MOST_READ = 1 << 28 }; /* bytes read of a file: an endless one has to end somewhere */
 enum { DIGITS = 20, MOST_SHOWN = 160 };             /* octal digits of a word; bytes shown of a line */
@@ -112,8 +113,9 @@ static const struct {
     {28, "There is no such card. Check the directory, and the names and numbers in the compile file."},
     {29, "The range is backwards: its second card stands ahead of its first."},
     {30, "A deck card cannot be deleted, restored or have text ahead of it, and YANK$$$ takes no text."},
-    {31, "The library would pass a limit: 65,536 words, 1,023 directory entries, 255 decks, 16,383 cards, 64 bytes in a history."},
+    {31, "The new library would pass a limit: 65,536 words, 1,023 directory entries, 255 decks with YANK$$$, 16,383 cards, 64 bytes in a history."},
     {32, "The new library is longer than the space for it."},
+    {37, "They cannot be merged: make one anew with another name, or leave them apart."},
     {40, "The CALL is malformed, or names no deck."},
     {41, "The CALL names a deck that is not a common deck."},
     {42, "Calls are nested deeper than 8. It may be that a common deck calls itself."},
@@ -124,12 +126,15 @@ static const struct {
     {53, "The words do not fit the space, or one has over 60 bits."},
 };
 
-static int explained(uint64_t number) {
-    const char *means = "Document 01 has the table of numbers.";
+static const char *meaning(uint64_t number) {
     for (size_t i = 0; i < sizeof meanings / sizeof *meanings; i++)
         if (meanings[i].number == number)
-            means = meanings[i].means;
-    fprintf(stderr, "%" PRIu64 ": %s\n", number, means);
+            return meanings[i].means;
+    return "Document 01 has the table of numbers.";
+}
+
+static int explained(uint64_t number) {
+    fprintf(stderr, "%" PRIu64 ": %s\n", number, meaning(number));
     return REFUSED;
 }
 
@@ -138,12 +143,21 @@ static int refused_whole(uint64_t number, const char *name) {
     return explained(number);
 }
 
-static int refused_word(uint64_t number, const char *file, Words image, uint64_t place) {
+static int refused_together(uint64_t number, const char *first, const char *second) {
+    fprintf(stderr, "galdwist: refused with %" PRIu64 ", %s and %s together\n", number, read_name(first), read_name(second));
+    return explained(number);
+}
+
+static void say_word(uint64_t number, const char *file, Words image, uint64_t place) {
     fprintf(stderr, "galdwist: refused with %" PRIu64 " at word %" PRIu64 " of %s, counted from 0", number, place, read_name(file));
     if (place < image.n)
         fprintf(stderr, ":\n    %0*" PRIo64 "\n", DIGITS, image.at[place]);
     else
         fprintf(stderr, ", where it ends\n");
+}
+
+static int refused_word(uint64_t number, const char *file, Words image, uint64_t place) {
+    say_word(number, file, image, place);
     return explained(number);
 }
 
@@ -456,19 +470,24 @@ static int print_directory(const uint8_t *rows, uint64_t entries) {
     return status;
 }
 
+static int list_directory(const char *file, Words image, uint8_t **rows, uint64_t *entries) {
+    size_t room = image.n * GALDWIST_ROW; /* an entry is a word of the library */
+    *rows = malloc(room + 1);
+    if (*rows == NULL)
+        return no_memory();
+    uint64_t number = galdwist_directory(image.at, image.n, *rows, room, entries);
+    return number == 0 ? DONE : refused_word(number, file, image, *entries);
+}
+
 static int directory(char **files) {
     Words image = {NULL, 0};
-    uint64_t value = 0;
+    uint8_t *rows = NULL;
+    uint64_t entries = 0;
     int status = read_words(files[0], &image);
-    size_t room = image.n * GALDWIST_ROW; /* an entry is a word of the library */
-    uint8_t *rows = malloc(room + 1);
-    if (status == DONE && rows == NULL)
-        status = no_memory();
-    uint64_t number = status == DONE ? galdwist_directory(image.at, image.n, rows, room, &value) : 0;
-    if (number != 0)
-        status = refused_word(number, files[0], image, value);
     if (status == DONE)
-        status = print_directory(rows, value);
+        status = list_directory(files[0], image, &rows, &entries);
+    if (status == DONE)
+        status = print_directory(rows, entries);
     free(rows);
     free(image.at);
     return status;
@@ -517,6 +536,57 @@ static int run(char **files) {
         status = run_words(files, old, stream);
     free(stream.at);
     free(old.at);
+    return status;
+}
+
+/* The word at fault is a name, and is told as the directory shows it. */
+static int refused_name(uint64_t number, const char *file, Words image, uint64_t place) {
+    uint8_t *rows = NULL;
+    uint64_t entries = 0;
+    int status = list_directory(file, image, &rows, &entries);
+    if (status == DONE) {
+        const char *name = (const char *)rows + (place - FIRST_ENTRY) * GALDWIST_ROW;
+        const char *blank = memchr(name, ' ', NAME);
+        int length = blank != NULL ? (int)(blank - name) : NAME;
+        say_word(number, file, image, place);
+        fprintf(stderr, "%" PRIu64 ": Both libraries have the name %.*s. %s\n", number, length, name, meaning(number));
+        status = REFUSED;
+    }
+    free(rows);
+    return status;
+}
+
+static int merge_words(char **files, const Words *both) {
+    uint64_t value, which, *space = malloc(GALDWIST_WORDS * sizeof *space);
+    if (space == NULL)
+        return no_memory();
+    uint64_t number = galdwist_merge(both[0].at, both[0].n, both[1].at, both[1].n, space, GALDWIST_WORDS, &value, &which);
+    int status;
+    if (number == 0)
+        status = write_words(files[2], (Words){space, value});
+    else if (which == 0)
+        status = refused_together(number, files[0], files[1]);
+    else if (number <= LAST_OF_LIBRARY)
+        status = refused_word(number, files[which - 1], both[which - 1], value);
+    else
+        status = refused_name(number, files[which - 1], both[which - 1], value);
+    free(space);
+    return status;
+}
+
+static int merge(char **files) {
+    Words both[2] = {{NULL, 0}, {NULL, 0}};
+    if (is_standard(files[0]) && is_standard(files[1]))
+        return not_read("-", "It cannot be both FIRST and SECOND");
+    int status = DONE;
+    for (int i = 0; status == DONE && i < 2; i++)
+        status = kept_apart(files[i], files[2]);
+    for (int i = 0; status == DONE && i < 2; i++)
+        status = read_words(files[i], &both[i]);
+    if (status == DONE)
+        status = merge_words(files, both);
+    free(both[1].at);
+    free(both[0].at);
     return status;
 }
 
@@ -592,6 +662,7 @@ static const struct {
     {"directory", "LIB", "lists the directory: number, name, what it is, yanked or not", 1, directory},
     {"check", "LIB", "says whether LIB is a sound library", 1, check},
     {"run", "OLD STREAM NEW", "applies a stream of directives to OLD and writes NEW", 3, run},
+    {"merge", "FIRST SECOND NEW", "makes one library of FIRST and SECOND and writes NEW", 3, merge},
     {"compile", "LIB FILE", "writes the compile file", 2, compile},
     {"pack", "WORDS PACKED", "packs words, 20 octal digits to a line", 2, pack},
     {"unpack", "PACKED WORDS", "unpacks words, 20 octal digits to a line", 2, unpack},
@@ -603,7 +674,7 @@ static int help(char **files) {
     (void)files;
     printf("galdwist keeps program libraries. Check the directory before you trust the number.\n\n");
     for (int i = 0; i < COMMANDS; i++)
-        printf("  galdwist %-9s %-14s  %s\n", commands[i].name, commands[i].files, commands[i].does);
+        printf("  galdwist %-9s %-16s  %s\n", commands[i].name, commands[i].files, commands[i].does);
     printf("\n- stands for standard input or standard output. OLD and NEW may be one file. A file is written whole or not at all.\n"
            "Status: 0 done, 1 refused, 2 wrong use or a file that cannot be read or written.\n");
     return DONE;

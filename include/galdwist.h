@@ -1,15 +1,15 @@
 /* Galdwist for C: what the archive of crates/face exports (`rt staticlib face` writes target/staticlib/libface.a, for x86-64).
  *
  * A slice is a pointer and a count of elements. Slices of one call do not overlap, and a pointer is null only where its count is 0.
- * A function returns the number of document 01's table, 0 where it is done. A refusal leaves every slice as it was; what is done
- * writes the length that it reports and nothing beyond. No function keeps a pointer, allocates, or fails in another way.
+ * A function returns the number of document 01's table (37, of a merge, is 02's), 0 where it is done. A refusal leaves every slice as it was;
+ * what is done writes the length that it reports and nothing beyond. No function keeps a pointer, allocates, or fails in another way.
  * A library is an image: one 60-bit word to an element. Words and lines are counted as in 01: words from 0, lines from 1.
  * Each comment names the definition that the function is proved to compute, in crates/NAME/specs.
  *
  * What a function works on beside its slices lies on the caller's stack. It needs, at most (the figures are in docs/MEASURES.md):
- *     galdwist_run                                                         about 2 MiB
- *     galdwist_compile, galdwist_check, galdwist_directory, galdwist_card  about 1 MiB
- *     galdwist_pack, galdwist_unpack, galdwist_fresh                       about 16 KiB
+ *     galdwist_run                                                                         about 2 MiB
+ *     galdwist_merge, galdwist_compile, galdwist_check, galdwist_directory, galdwist_card  about 1 MiB
+ *     galdwist_pack, galdwist_unpack, galdwist_fresh                                       about 16 KiB
  * The first thread of a program has 8 MiB on Linux; a thread or a task of an emulator may have less.
  *
  * tests/c/example.c makes a library, corrects it and writes its compile file, in memory. */
@@ -42,6 +42,13 @@ uint64_t galdwist_check(const uint64_t *image, size_t n, uint64_t *place);
  * 19 to 32 where the stream is refused. `value`: words written; the word at fault for 1 to 10; the line for 20 to 31; 0 for 19 and 32.
  * corrections/Run.antt: running, ranNumber, ranValue, runInto. */
 uint64_t galdwist_run(const uint64_t *old, size_t n, const uint8_t *stream, size_t k, uint64_t *space, size_t room, uint64_t *value);
+
+/* The merge: the second library after the first, its numbers in histories raised by the count of the first's directory, written to `space`.
+ * 1 to 10 where one is no library, the first ahead of the second; 37 where both have a name; 31 where the two together pass a limit; 32 where
+ * the space is too small. `value`: words written; the word at fault for 1 to 10; the word of the second's directory for 37; 0 for 31 and 32.
+ * `which`: the library that the word is of, 1 or 2; else 0. merge/Merge.antt: merging, mergedNumber, mergedValue, mergedWhich, mergeInto. */
+uint64_t galdwist_merge(const uint64_t *first, size_t n, const uint64_t *second, size_t k, uint64_t *space, size_t room, uint64_t *value,
+                        uint64_t *which);
 
 /* The full compile file of a library, GALDWIST_LINE bytes to a line. 1 to 10 where the image is no library; 40 to 43 at a CALL; 44 at a line
  * that does not fit. `first` and `second`: lines written and calls opened; the word at fault and 0 for 1 to 10; the card's owner, as its

@@ -1,12 +1,12 @@
-/* What the customer was promised of the run and the compile file, on the running engine. The last line counts.
- *   promises          on tests/corpus: what its streams make, whole, set by set and cut ahead of every unit, and its sets taken back
- *   promises CASES    on the runs in a file of cases (tests/CASES.md): each cut ahead of units by chance, and the sets among them taken back */
+/* What the customer was promised of the run, the compile file and the merge, on the running engine. The last line counts.
+ *   promises          on tests/corpus: what its streams make, whole, set by set and cut ahead of every unit, and its sets taken back; its halves merged, and
+ *                     the same halves with sets of their own (bench/corpus.h), each set of either taken back in the merged library
+ *   promises CASES    on a file of cases (tests/CASES.md). Its runs: each cut ahead of units by chance, and the sets among them taken back. Its merges: what
+ *                     the merged library shows, and a set of either taken back in it */
+#include "../../bench/corpus.h"
 #include "galdwist.h"
-#include <stdio.h>
-#include <stdlib.h>
-#include <string.h>
 
-enum { WORDS = 65536, STREAM = 262144, LINE = 91, COLUMNS = 72, LINES = 16384, NAME = 9, SETS = 1023, CORPUS_SETS = 200 };
+enum { LINE = GALDWIST_LINE, ROW = GALDWIST_ROW, COLUMNS = 72, LINES = 16384, NAME = 9, SETS = 1023, CORPUS_SETS = 200 };
 #define LENT UINT64_C(0x5A5A5A5A5A5A5A5A)
 
 static int passed, failed;
@@ -21,11 +21,6 @@ static int expect(int ok, const char *what, long which) {
     return ok;
 }
 
-static void stop(const char *what, const char *which) {
-    printf("promises: %s %s\n", what, which);
-    exit(2);
-}
-
 /* A number below `end`, the same ones in every run of the program (splitmix64). */
 static uint64_t below(uint64_t end) {
     static uint64_t state = 1;
@@ -38,14 +33,9 @@ static uint64_t below(uint64_t end) {
 
 /* ---- calls of the engine */
 
-struct library {
-    uint64_t words[WORDS];
-    size_t n;
-};
-
 static const struct library fresh = {{03100503130004003147, 1, 031011613535353000000}, 3};
 
-/* What a run answers: its number and value, and the new library where it is done. */
+/* What a run or a merge answers: its number and value, and the new library where it is done. */
 struct run {
     uint64_t number, value;
     struct library new;
@@ -58,18 +48,33 @@ static void clear_space(size_t n) {
         space[i] = LENT;
 }
 
-/* Runs a stream with room for 65,536 words. Each byte of the space is 5A before; what is not written must be so still. */
-static void run(const struct library *old, const uint8_t *stream, size_t k, struct run *r) {
-    r->value = 99;
-    r->number = galdwist_run(old->words, old->n, stream, k, space, WORDS, &r->value);
+/* Takes the new library out of the space. Each byte there was 5A before the call; what is not written must be so still. */
+static void take_out(struct run *r) {
     size_t n = r->number == 0 && r->value <= WORDS ? (size_t)r->value : 0, touched = 0;
     for (size_t i = n; i < WORDS; i++)
         touched += space[i] != LENT;
     if (touched > 0)
-        expect(0, "a run writes its words and nothing beyond, a refusal nothing", (long)touched);
+        expect(0, "a call writes its words and nothing beyond, a refusal nothing", (long)touched);
     memcpy(r->new.words, space, n * sizeof space[0]);
     r->new.n = n;
     clear_space(touched > 0 ? WORDS : n);
+}
+
+/* Runs a stream with room for 65,536 words. */
+static void run(const struct library *old, const uint8_t *stream, size_t k, struct run *r) {
+    r->value = 99;
+    r->number = galdwist_run(old->words, old->n, stream, k, space, WORDS, &r->value);
+    take_out(r);
+}
+
+/* Merges two libraries with as much room. */
+static void merge(const struct library *first, const struct library *second, struct run *r) {
+    uint64_t which = 99;
+    r->value = 99;
+    r->number = galdwist_merge(first->words, first->n, second->words, second->n, space, WORDS, &r->value, &which);
+    if (r->number == 0 && which != 0)
+        expect(0, "a merge that is done names no library", (long)which);
+    take_out(r);
 }
 
 /* Copies the words that are there, and not the room for more. */
@@ -84,6 +89,11 @@ static int same_library(const struct library *a, const struct library *b) {
 
 static int same_run(const struct run *a, const struct run *b) {
     return a->number == b->number && a->value == b->value && same_library(&a->new, &b->new);
+}
+
+static void sound(const struct library *library, const char *what) {
+    uint64_t place = 99;
+    expect(galdwist_check(library->words, library->n, &place) == 0 && place == 0, what, (long)library->n);
 }
 
 /* The full compile answer: the number, the two values, and the whole space after it. */
@@ -111,39 +121,6 @@ static int same_file(const struct file *a, const struct file *b) {
 }
 
 /* ---- streams */
-
-struct stream {
-    uint8_t bytes[2 * STREAM];
-    size_t n;
-};
-
-static void load(const char *path, struct stream *s) {
-    FILE *in = fopen(path, "rb");
-    if (in == NULL)
-        stop("cannot read", path);
-    s->n = fread(s->bytes, 1, sizeof s->bytes, in);
-    fclose(in);
-    if (s->n == sizeof s->bytes)
-        stop("too long:", path);
-}
-
-static void add(struct stream *s, const char *text) {
-    size_t n = strlen(text);
-    memcpy(s->bytes + s->n, text, n);
-    s->n += n;
-}
-
-/* The end of the line at a place, and the place of the next. */
-static size_t line_end(const uint8_t *s, size_t n, size_t at) {
-    while (at < n && s[at] != 10)
-        at++;
-    return at;
-}
-
-static size_t line_after(const uint8_t *s, size_t n, size_t at) {
-    size_t end = line_end(s, n, at);
-    return end < n ? end + 1 : n;
-}
 
 /* The unit that a line starts, well formed or not: its name ends at a comma, a blank or the line's end. */
 enum unit { NONE, DECK, SET };
@@ -280,6 +257,117 @@ static void take_back(const struct library *before, const struct library *after,
     expect(again.number == 0 && same_file(&file_now, &file_after), "the yanks yanked bring the corrected compile answer back", which);
 }
 
+/* ---- merging */
+
+/* What is shown of a library: its full compile answer and its directory. */
+struct view {
+    struct file file;
+    uint8_t rows[SETS * ROW];
+    size_t entries;
+};
+
+static void show(const struct library *library, size_t room, struct view *v) {
+    uint64_t entries = 0;
+    compile(library, room, &v->file);
+    v->entries = galdwist_directory(library->words, library->n, v->rows, sizeof v->rows, &entries) == 0 ? (size_t)entries : 0;
+}
+
+/* The sets of a directory. */
+static void sets_shown(const struct view *v, struct names *sets) {
+    sets->n = 0;
+    for (const uint8_t *row = v->rows; row < v->rows + v->entries * ROW; row += ROW) {
+        if (row[NAME] != 'S')
+            continue;
+        char *name = sets->name[sets->n++];
+        size_t length = 0;
+        for (; length < NAME && row[length] != ' '; length++)
+            name[length] = (char)row[length];
+        name[length] = 0;
+    }
+}
+
+/* Two libraries, the merged one, and what they show; `alone` is a run on one of the two. */
+static struct library pair[2];
+static struct run merged, alone;
+static struct view view_of[2], view_merged, view_taken, view_now;
+
+static int both_compile(const struct view *a, const struct view *b) {
+    return a->file.number == 0 && b->file.number == 0;
+}
+
+/* Whether a view has the rows of one and then those of another, as many as the pair has, and, where both compile, the lines of both and the calls of both. */
+static int follows(const struct view *v, const struct view *a, const struct view *b) {
+    size_t n = view_of[0].entries, k = view_of[1].entries;
+    if (v->entries < n + k || memcmp(v->rows, a->rows, n * ROW) != 0 || memcmp(v->rows + n * ROW, b->rows, k * ROW) != 0)
+        return 0;
+    if (!both_compile(a, b))
+        return 1;
+    n = a->file.first, k = b->file.first;
+    return v->file.number == 0 && v->file.first == n + k && v->file.second == a->file.second + b->file.second &&
+           memcmp(v->file.bytes, a->file.bytes, n * LINE) == 0 && memcmp(v->file.bytes + n * LINE, b->file.bytes, k * LINE) == 0;
+}
+
+/* The room for the files of two libraries that have so much each. */
+static size_t twice(size_t room) {
+    return room < LINES * LINE / 2 ? 2 * room : LINES * LINE;
+}
+
+/* The merged file in room for the lines of both, and in a byte less. */
+static void fits_exactly(long which) {
+    size_t exact = view_merged.file.first * LINE;
+    compile(&merged.new, exact, &file_now);
+    expect(file_now.number == 0 && memcmp(file_now.bytes, view_merged.file.bytes, exact) == 0, "the merged file fits room for the lines of both", which);
+    if (exact == 0)
+        return;
+    compile(&merged.new, exact - 1, &file_now);
+    expect(file_now.number == 44, "the merged file does not fit a byte less", which);
+}
+
+/* Merges the pair, where each file has so much room. The merged library is sound and as long as both, and shows the first and then the second. Answers
+ * whether it was merged. */
+static int merge_pair(size_t room, long which) {
+    merge(&pair[0], &pair[1], &merged);
+    if (merged.number != 0)
+        return 0;
+    for (int side = 0; side < 2; side++)
+        show(&pair[side], room, &view_of[side]);
+    show(&merged.new, twice(room), &view_merged);
+    sound(&merged.new, "the check accepts the merged library");
+    expect(merged.new.n == pair[0].n + pair[1].n - fresh.n && view_merged.entries == view_of[0].entries + view_of[1].entries,
+           "the merged library has the words and the entries of both", which);
+    int right = expect(follows(&view_merged, &view_of[0], &view_of[1]), "the merged library shows the first and then the second", which);
+    if (right && both_compile(&view_of[0], &view_of[1]))
+        fits_exactly(which);
+    return 1;
+}
+
+/* A set of one of the pair is yanked in the merged library: that one is shown as with the set yanked in it alone, and the other as it was. Then the yank is
+ * yanked, and the merged library shows what it did. Answers whether the limits let this be done. */
+static int yank_in(int side, const char *set, size_t room, long which) {
+    enum { LIMIT = 31 };
+    static struct stream s;
+    static struct names one;
+    one.n = 1;
+    strcpy(one.name[0], set);
+    yanking("TAKEBACK", one, &s);
+    run(&pair[side], s.bytes, s.n, &alone);
+    run(&merged.new, s.bytes, s.n, &back);
+    strcpy(one.name[0], "TAKEBACK");
+    yanking("TAKEAGAIN", one, &s);
+    run(&back.new, s.bytes, s.n, &again);
+    if (alone.number == LIMIT || back.number == LIMIT || again.number == LIMIT)
+        return 0;
+    show(&alone.new, room, &view_taken);
+    show(&back.new, twice(room), &view_now);
+    expect(alone.number == 0 && back.number == 0 &&
+               follows(&view_now, side == 0 ? &view_taken : &view_of[0], side == 0 ? &view_of[1] : &view_taken),
+           "a set yanked in the merged library is taken back there and nothing else is", which);
+    show(&again.new, twice(room), &view_now);
+    expect(again.number == 0 && same_file(&view_now.file, &view_merged.file) && follows(&view_now, &view_of[0], &view_of[1]),
+           "that yank yanked, the merged library shows what it did", which);
+    return 1;
+}
+
 /* ---- the corpus */
 
 static struct stream create_1, create_2, sets, text;
@@ -298,11 +386,6 @@ static int shows(const struct file *f, const struct stream *t) {
                 return 0;
     }
     return f->number == 0 && f->first == line && f->second == 0;
-}
-
-static void sound(const struct library *library, const char *what) {
-    uint64_t place = 99;
-    expect(galdwist_check(library->words, library->n, &place) == 0 && place == 0, what, (long)library->n);
 }
 
 static void cut_everywhere(const struct library *old, const struct stream *s, const struct run *whole, const char *what) {
@@ -357,11 +440,11 @@ static void corpus_is_cut(void) {
     cut_everywhere(&base.new, &sets, &corrected, "the sets cut ahead of every set");
 }
 
-/* The sets from one to another are run on what those ahead of them made, and taken back. */
-static void corpus_is_taken_back(size_t from, size_t to) {
+/* The sets from one to another are run on what those ahead of them made of a library, and taken back. */
+static void corpus_is_taken_back(const struct library *old, size_t from, size_t to) {
     static struct names names;
     static struct library before, after;
-    run(&base.new, sets.bytes, set_at[from], &other);
+    run(old, sets.bytes, set_at[from], &other);
     copy(&other.new, &before);
     run(&before, sets.bytes + set_at[from], set_at[to] - set_at[from], &other);
     expect(other.number == 0 && sets_of(sets.bytes + set_at[from], set_at[to] - set_at[from], &names) && names.n == to - from,
@@ -370,13 +453,82 @@ static void corpus_is_taken_back(size_t from, size_t to) {
     take_back(&before, &after, &names, LINES * LINE, (long)(to - from));
 }
 
+static void halves_are_merged(void) {
+    run(&fresh, create_2.bytes, create_2.n, &other);
+    expect(other.number == 0, "create-2 is accepted on the fresh library", (long)other.number);
+    merge(&first.new, &other.new, &merged);
+    expect(merged.number == 0 && same_library(&merged.new, &base.new), "the halves merged are create-2 run on create-1", (long)merged.number);
+}
+
+/* The cards with four history bytes and more: the first of their further history words is full. */
+static long long_histories(const struct library *l) {
+    enum { FIELD = 0777777 };
+    long count = 0;
+    for (size_t at = 2 + (l->words[1] >> 18) + (l->words[1] & FIELD), next; at < l->n; at = next) {
+        count += l->words[at] >> 59 == 0 && (l->words[at + 1] & FIELD) != 0;
+        for (next = at; l->words[next] >> 59 == 0; next++)
+            continue;
+        next += 1 + (l->words[at] >> 36 & FIELD);
+    }
+    return count;
+}
+
+/* The yanked sets of a library of the pair, from a place among the six of a cycle on; they are the last of its directory. */
+static long yanked_from(const struct view *v, size_t place) {
+    long count = 0;
+    for (size_t set = 0; set < PAIR_SETS && v->entries > PAIR_SETS; set++)
+        count += set % CYCLE >= place && v->rows[(v->entries - PAIR_SETS + set) * ROW + NAME + 1] == 'Y';
+    return count;
+}
+
+/* The second pair: both have yanked sets, yanked yanks, long histories and calls. */
+static void pair_is_made(void) {
+    static struct making making;
+    for (int side = 0; side < 2; side++) {
+        make_streams(side, &making);
+        run(&fresh, making.creation.bytes, making.creation.n, &other);
+        expect(other.number == 0, "a half with common decks is accepted", side + 1);
+        copy(&other.new, &pair[side]);
+        run(&pair[side], making.sets.bytes, making.sets.n, &other);
+        expect(other.number == 0, "a half's own sets are accepted", side + 1);
+        copy(&other.new, &pair[side]);
+        show(&pair[side], LINES * LINE, &view_of[side]);
+        expect(view_of[side].file.number == 0 && view_of[side].file.second > 0, "a half with its sets compiles, and has calls", side + 1);
+        long yanked = yanked_from(&view_of[side], 0), yanks = yanked_from(&view_of[side], CORRECTING), histories = long_histories(&pair[side]);
+        expect(yanks > 0 && yanked > yanks, "a half has yanked sets and yanked yanks", side + 1);
+        expect(histories > 0, "a half has cards with four history bytes and more", side + 1);
+        printf("library %d: %zu words, %ld of %d sets yanked, %ld of these yanks; %ld cards with four history bytes and more\n", side + 1, pair[side].n,
+               yanked, PAIR_SETS, yanks, histories);
+    }
+}
+
+/* Each set of either library is yanked in the merged one; most of them change what their own library shows. */
+static void pair_is_merged(void) {
+    static struct names names;
+    expect(merge_pair(LINES * LINE, 0), "the pair is merged", (long)merged.number);
+    for (int side = 0; side < 2; side++) {
+        long done = 0, changing = 0;
+        sets_shown(&view_of[side], &names);
+        for (size_t i = 0; i < names.n; i++) {
+            done += yank_in(side, names.name[i], LINES * LINE, (long)i);
+            changing += !same_file(&view_taken.file, &view_of[side].file);
+        }
+        expect(done == PAIR_SETS, "every set of a library is yanked in the merged one", done);
+        expect(changing > PAIR_SETS / 2, "most sets change what their library shows when they are yanked", changing);
+    }
+    corpus_is_taken_back(&merged.new, 0, 10);
+}
+
 static void corpus(void) {
     corpus_is_made();
     find_sets();
     corpus_is_cut();
     static const size_t taken[][2] = {{0, 1}, {199, 200}, {0, 10}, {95, 105}, {0, 40}, {160, 200}, {0, 200}};
     for (size_t i = 0; i < sizeof taken / sizeof taken[0]; i++)
-        corpus_is_taken_back(taken[i][0], taken[i][1]);
+        corpus_is_taken_back(&base.new, taken[i][0], taken[i][1]);
+    halves_are_merged();
+    pair_is_made();
+    pair_is_merged();
 }
 
 /* ---- cases */
@@ -384,7 +536,7 @@ static void corpus(void) {
 static struct run whole, parts;
 
 struct counts {
-    long cases, accepted, cut, taken_back;
+    long cases, accepted, cut, taken_back, pairs, merged, compiled, yanked;
 };
 
 static void one_case(const struct library *old, const uint8_t *stream, size_t n, struct counts *counts) {
@@ -402,34 +554,62 @@ static void one_case(const struct library *old, const uint8_t *stream, size_t n,
     take_back(old, &whole.new, &names, rooms[which % 4] * LINE - (size_t)(which % 3 == 0), which);
 }
 
+/* The pair is merged, and of each library a set by chance is yanked. */
+static void one_pair(struct counts *counts) {
+    static struct names names;
+    const size_t room = 720 * LINE;
+    long which = ++counts->pairs;
+    if (!merge_pair(room, which))
+        return;
+    counts->merged++;
+    counts->compiled += both_compile(&view_of[0], &view_of[1]);
+    for (int side = 0; side < 2; side++) {
+        sets_shown(&view_of[side], &names);
+        if (names.n > 0)
+            counts->yanked += yank_in(side, names.name[below(names.n)], room, which);
+    }
+}
+
 static uint32_t little(const uint8_t *b) {
     return (uint32_t)b[0] | (uint32_t)b[1] << 8 | (uint32_t)b[2] << 16 | (uint32_t)b[3] << 24;
 }
 
+static void read_image(const uint8_t *blob, size_t n, struct library *l) {
+    l->n = n / 8;
+    for (size_t i = 0; i < l->n; i++)
+        l->words[i] = (uint64_t)little(blob + 8 * i) | (uint64_t)little(blob + 8 * i + 4) << 32;
+}
+
 static void cases(const char *path) {
-    enum { HEAD = 13, RUN = 2 };
+    enum { HEAD = 13, RUN = 2, MERGE = 9 };
     static struct library old;
-    static uint8_t image[8 * (WORDS + 1)], stream[STREAM + 1];
+    static uint8_t image[8 * (WORDS + 1)], second[8 * (WORDS + 1)];
     uint8_t head[HEAD];
-    struct counts counts = {0, 0, 0, 0};
+    struct counts counts = {0};
     FILE *in = fopen(path, "rb");
     if (in == NULL)
         stop("cannot read", path);
     while (fread(head, 1, HEAD, in) == HEAD) {
         size_t n = little(head + 5), k = little(head + 9);
-        if (n > sizeof image || k > sizeof stream || fread(image, 1, n, in) != n || fread(stream, 1, k, in) != k)
+        if (n > sizeof image || k > sizeof second || fread(image, 1, n, in) != n || fread(second, 1, k, in) != k)
             stop("a case that is cut short or too large:", path);
-        /* the promise speaks of streams of at most 262,144 bytes */
-        if (head[0] != RUN || n / 8 > WORDS || k > STREAM)
+        if (n / 8 > WORDS)
             continue;
-        old.n = n / 8;
-        for (size_t i = 0; i < old.n; i++)
-            old.words[i] = (uint64_t)little(image + 8 * i) | (uint64_t)little(image + 8 * i + 4) << 32;
-        one_case(&old, stream, k, &counts);
+        /* the promise speaks of streams of at most 262,144 bytes */
+        if (head[0] == RUN && k <= STREAM) {
+            read_image(image, n, &old);
+            one_case(&old, second, k, &counts);
+        } else if (head[0] == MERGE && k / 8 <= WORDS) {
+            read_image(image, n, &pair[0]);
+            read_image(second, k, &pair[1]);
+            one_pair(&counts);
+        }
     }
     fclose(in);
     printf("%ld streams, %ld accepted, %ld cut, %ld of sets only and taken back\n", counts.cases, counts.accepted, counts.cut,
            counts.taken_back);
+    printf("%ld pairs, %ld merged, %ld of which both compile, %ld sets yanked in them\n", counts.pairs, counts.merged, counts.compiled,
+           counts.yanked);
 }
 
 int main(int argc, char **argv) {

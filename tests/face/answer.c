@@ -1,20 +1,21 @@
-/* Answers the cases on standard input through the C face, one line for each (tests/CASES.md), as the program `cases` does from within. Ops 1 to 5; its
- * spaces hold a whole library and all lines of one. */
+/* Answers the cases on standard input through the C face, one line for each (tests/CASES.md), as the program `cases` does from within. Ops 1 to 5 and 9; its
+ * spaces hold more than a whole library and all lines of one. */
 #include "galdwist.h"
 #include <inttypes.h>
 #include <stdio.h>
 #include <stdlib.h>
 #include <string.h>
 
-enum { HEAD = 13, WORDS = 65537, STREAM = 262400, FILE_BYTES = 16384 * 91 };
+enum { HEAD = 13, WORDS = 66000, FILE_BYTES = 16384 * 91 };
+enum { CHECK = 1, RUN = 2, COMPILE = 3, PACK = 4, UNPACK = 5, MERGE = 9 };
 #define LENT UINT64_C(0x5A5A5A5A5A5A5A5A)
 
 struct answer {
     uint64_t number, first, second, sum;
 };
 
-static uint8_t head[HEAD], first_blob[8 * WORDS], second_blob[STREAM], file[FILE_BYTES];
-static uint64_t words[WORDS], library[WORDS];
+static uint8_t head[HEAD], first_blob[8 * WORDS], second_blob[8 * WORDS], file[FILE_BYTES];
+static uint64_t words[WORDS], second_words[WORDS], library[WORDS];
 
 static uint32_t little(const uint8_t *b) {
     return (uint32_t)b[0] | (uint32_t)b[1] << 8 | (uint32_t)b[2] << 16 | (uint32_t)b[3] << 24;
@@ -44,11 +45,23 @@ static struct answer check(size_t n) {
     return a;
 }
 
-static struct answer run(size_t n, size_t k, size_t room) {
-    struct answer a = {0, 99, 0, 0};
+static void clear_library(size_t room) {
     for (size_t i = 0; i < room; i++)
         library[i] = LENT;
+}
+
+static struct answer run(size_t n, size_t k, size_t room) {
+    struct answer a = {0, 99, 0, 0};
+    clear_library(room);
     a.number = galdwist_run(words, n, second_blob, k, library, room, &a.first);
+    a.sum = sum_of_words(room);
+    return a;
+}
+
+static struct answer merge(size_t n, size_t k, size_t room) {
+    struct answer a = {0, 99, 99, 0};
+    clear_library(room);
+    a.number = galdwist_merge(words, n, second_words, k, library, room, &a.first, &a.second);
     a.sum = sum_of_words(room);
     return a;
 }
@@ -64,31 +77,39 @@ static struct answer compile(size_t n, size_t room) {
 static struct answer packing(int op, size_t n, size_t room) {
     struct answer a = {0, 99, 0, 0};
     memset(file, 0x5A, room);
-    a.number = (op == 4 ? galdwist_pack : galdwist_unpack)(first_blob, n, file, room, &a.first);
+    a.number = (op == PACK ? galdwist_pack : galdwist_unpack)(first_blob, n, file, room, &a.first);
     a.sum = sum_of_bytes(room);
     return a;
 }
 
-static struct answer answer(int op, size_t room, size_t n, size_t k) {
-    if (op == 4 || op == 5)
-        return packing(op, n, room);
+/* The words of a blob, eight bytes each, and their count. */
+static size_t to_words(const uint8_t *blob, size_t n, uint64_t *to) {
     for (size_t i = 0; i < n / 8; i++)
-        words[i] = (uint64_t)little(first_blob + 8 * i) | (uint64_t)little(first_blob + 8 * i + 4) << 32;
-    if (op == 1)
-        return check(n / 8);
-    return op == 2 ? run(n / 8, k, room) : compile(n / 8, room);
+        to[i] = (uint64_t)little(blob + 8 * i) | (uint64_t)little(blob + 8 * i + 4) << 32;
+    return n / 8;
+}
+
+static struct answer answer(int op, size_t room, size_t n, size_t k) {
+    if (op == PACK || op == UNPACK)
+        return packing(op, n, room);
+    n = to_words(first_blob, n, words);
+    if (op == CHECK)
+        return check(n);
+    if (op == MERGE)
+        return merge(n, to_words(second_blob, k, second_words), room);
+    return op == RUN ? run(n, k, room) : compile(n, room);
 }
 
 int main(void) {
     while (fread(head, 1, HEAD, stdin) == HEAD) {
         int op = head[0];
         size_t room = little(head + 1), n = little(head + 5), k = little(head + 9);
-        if (n > sizeof first_blob || k > sizeof second_blob || room > (op == 2 ? WORDS : FILE_BYTES) ||
+        if (n > sizeof first_blob || k > sizeof second_blob || room > (op == RUN || op == MERGE ? WORDS : FILE_BYTES) ||
             fread(first_blob, 1, n, stdin) != n || fread(second_blob, 1, k, stdin) != k) {
             fprintf(stderr, "answer: a case is cut short or too large\n");
             return 2;
         }
-        if (op < 1 || op > 5) {
+        if ((op < CHECK || op > UNPACK) && op != MERGE) {
             printf("cases: op %d not carried\n", op);
             continue;
         }

@@ -6,6 +6,7 @@ use std::io::{self, Write};
 use crate::check::check;
 use crate::compile::compile;
 use crate::lines::{call, lines, read, CardName, Kind, Line};
+use crate::merge::{merge, Refused};
 use crate::refusal::{Number, Refusal};
 use crate::run::run;
 use crate::text::{code, compress, expand, COLUMNS};
@@ -19,6 +20,7 @@ pub const UNPACK: u8 = 5;
 pub const COMPRESS: u8 = 6;
 pub const EXPAND: u8 = 7;
 pub const LINE: u8 = 8;
+pub const MERGE: u8 = 9;
 
 const HEAD: usize = 13;
 /// What each byte of a lent space holds before the call.
@@ -53,6 +55,10 @@ impl Case {
         Case { op: COMPILE, room: room as u32, first: to_bytes(image), second: Vec::new() }
     }
 
+    pub fn merge(first: &[u64], second: &[u64], room: usize) -> Case {
+        Case { op: MERGE, room: room as u32, first: to_bytes(first), second: to_bytes(second) }
+    }
+
     pub fn bytes(op: u8, room: usize, bytes: Vec<u8>) -> Case {
         Case { op, room: room as u32, first: bytes, second: Vec::new() }
     }
@@ -75,8 +81,8 @@ impl Case {
                 Err(refusal) => refused(refusal, 0),
             },
             RUN => match run(&image(), &self.second, room) {
-                Ok(new) => done(new.len(), 0, space_sum(&to_halves(&new), room * 2, LENT_HALF)),
-                Err(refusal) => refused(refusal, space_sum(&[], room * 2, LENT_HALF)),
+                Ok(new) => done(new.len(), 0, word_sum(&new, room)),
+                Err(refusal) => refused(refusal, word_sum(&[], room)),
             },
             COMPILE => match compile(&image(), room) {
                 Ok(file) => done(file.lines(), file.calls, byte_sum(&file.bytes, room)),
@@ -86,15 +92,21 @@ impl Case {
             UNPACK => bytes_answer(unpack_bytes(&self.first, room), room),
             COMPRESS => {
                 let words = compress(&self.first);
-                done(words.len(), 0, space_sum(&to_halves(&words), words.len() * 2, LENT_HALF))
+                done(words.len(), 0, word_sum(&words, words.len()))
             }
             EXPAND => match expand(&image()) {
                 Some(line) => done(line.len(), 0, byte_sum(&line, line.len())),
                 None => refused(Refusal::new(Number::TextForm, 0), 0),
             },
             LINE => match asked(&self.first) {
-                Ok((kind, words)) => done(kind, words.len(), space_sum(&to_halves(&words), words.len() * 2, LENT_HALF)),
+                Ok((kind, words)) => done(kind, words.len(), word_sum(&words, words.len())),
                 Err(number) => refused(Refusal::new(number, 0), 0),
+            },
+            MERGE => match merge(&image(), &from_bytes(&self.second), room) {
+                Ok(new) => done(new.len(), 0, word_sum(&new, room)),
+                Err(Refused { refusal, which }) => {
+                    Answer { values: [refusal.place, which as usize], ..refused(refusal, word_sum(&[], room)) }
+                }
             },
             op => panic!("no op {}", op),
         }
@@ -147,8 +159,9 @@ fn bytes_answer(result: Result<Vec<u8>, Number>, room: usize) -> Answer {
 const LENT_HALF: u32 = u32::from_le_bytes([LENT; 4]);
 
 /// A word counts as its low 32 bits and then its high 32 bits.
-fn to_halves(words: &[u64]) -> Vec<u32> {
-    words.iter().flat_map(|&word| [word as u32, (word >> 32) as u32]).collect()
+fn word_sum(written: &[u64], room: usize) -> u64 {
+    let halves: Vec<u32> = written.iter().flat_map(|&word| [word as u32, (word >> 32) as u32]).collect();
+    space_sum(&halves, room * 2, LENT_HALF)
 }
 
 fn byte_sum(written: &[u8], room: usize) -> u64 {
@@ -191,14 +204,17 @@ pub fn write_answers(file: &[u8], out: &mut impl Write) -> io::Result<()> {
     Ok(())
 }
 
-/// A table of op, number of the answer, and how many.
+/// A table of op, number of the answer, and how many; for a merge that is refused, also which library.
 pub fn write_counts(file: &[u8], out: &mut impl Write) -> io::Result<()> {
-    let mut counts: BTreeMap<(u8, u32), usize> = BTreeMap::new();
+    let mut counts: BTreeMap<(u8, u32, Option<usize>), usize> = BTreeMap::new();
     for case in cases(file) {
-        *counts.entry((case.op, case.answer().number)).or_insert(0) += 1;
+        let Answer { number, values: [_, which], .. } = case.answer();
+        let which = Some(which).filter(|_| case.op == MERGE && number > 0);
+        *counts.entry((case.op, number, which)).or_insert(0) += 1;
     }
-    for ((op, number), count) in counts {
-        writeln!(out, "{:2} {:3} {:7}", op, number, count)?;
+    for ((op, number, which), count) in counts {
+        let which = which.map_or(String::new(), |which| format!(" of {}", which));
+        writeln!(out, "{:2} {:3} {:7}{}", op, number, count, which)?;
     }
     Ok(())
 }
@@ -221,7 +237,13 @@ pub fn write_shown(file: &[u8], out: &mut impl Write) -> io::Result<()> {
             COMPRESS | LINE => show_lines(&case.first, out)?,
             _ => show_words(&case.first, out)?,
         }
-        show_lines(&case.second, out)?;
+        match case.op {
+            MERGE => {
+                writeln!(out, "and")?;
+                show_words(&case.second, out)?;
+            }
+            _ => show_lines(&case.second, out)?,
+        }
         writeln!(out, "answer: {} {} {} {}\n", number, first, second, sum)?;
     }
     Ok(())

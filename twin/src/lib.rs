@@ -1,4 +1,4 @@
-//! A second implementation of the engine that document 01 describes, written from that document alone.
+//! A second implementation of the engine that documents 01 and 02 describe, written from those documents alone.
 
 pub mod cases;
 pub mod check;
@@ -6,6 +6,7 @@ pub mod compile;
 pub mod library;
 pub mod lines;
 pub mod make;
+pub mod merge;
 pub mod refusal;
 pub mod run;
 pub mod text;

@@ -1,4 +1,4 @@
-//! 01, "Numbers of the answers": the numbers, and the places that go with them.
+//! 01, "Numbers of the answers", and the refusals of 02: the numbers, and the places that go with them.
 
 /// The number of a refusal. The order of the values is the order of the table, so the lowest of several is their minimum.
 #[derive(Clone, Copy, Debug, PartialEq, Eq, PartialOrd, Ord, Hash)]
@@ -28,6 +28,7 @@ pub enum Number {
     BarredCard = 30,
     Limit = 31,
     NewLength = 32,
+    CommonName = 37,
     CallOfNoDeck = 40,
     CallOfNoCommonDeck = 41,
     Depth = 42,

@@ -97,8 +97,8 @@ fn limits_reach_what_small_cases_do_not() {
 
 /// The gate goes through the list once, by this count.
 #[test]
-fn limits_are_428() {
-    assert_eq!(limit_cases(), 428);
+fn limits_are_543() {
+    assert_eq!(limit_cases(), 543);
 }
 
 #[test]

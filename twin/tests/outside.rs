@@ -7,6 +7,7 @@ use std::path::{Path, PathBuf};
 use twin::cases::write_answers;
 use twin::compile::{compile, CompileFile, LINE_BYTES};
 use twin::library::{FRESH, MAX_WORDS};
+use twin::merge::merge;
 use twin::run::run;
 
 const TEXT_COLUMNS: usize = 72;
@@ -64,4 +65,23 @@ fn corpus_compiles_to_its_lines() {
     let yanked = corrected(&new, &[b"*IDENT BACK\n", &yanks[..]].concat());
     assert_eq!(file(&yanked), file(&base));
     assert_eq!(file(&corrected(&yanked, b"*IDENT AGAIN\n*YANK BACK\n")), file(&new));
+}
+
+/// The streams of the corpus name different decks: each alone on the fresh library, merged, is the second after the first.
+#[test]
+fn corpus_merges_as_it_runs() {
+    let folder = folder("TWIN_CORPUS", "corpus");
+    if !folder.is_dir() {
+        return;
+    }
+    let read = |name: &str| fs::read(folder.join(name)).expect("a file of the corpus");
+    let corrected = |image: &[u64], name: &str| run(image, &read(name), MAX_WORDS).expect("an accepted stream");
+    let first = corrected(&FRESH, "create-1.upd");
+    let second = corrected(&FRESH, "create-2.upd");
+    let both = corrected(&first, "create-2.upd");
+    assert!(merge(&first, &second, MAX_WORDS) == Ok(both.clone()), "the merged corpus");
+    assert!(merge(&first, &second, both.len()) == Ok(both.clone()), "the merged corpus in its own room");
+    let sets = corrected(&both, "sets.upd");
+    assert!(merge(&sets, &FRESH, MAX_WORDS) == Ok(sets.clone()), "the corpus and the fresh library");
+    assert!(merge(&FRESH, &sets, MAX_WORDS) == Ok(sets), "the fresh library and the corpus");
 }

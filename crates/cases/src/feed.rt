@@ -5,10 +5,10 @@ use crate::space::front_bytes;
 use crate::space::front_words;
 use libc::STDIN_FILENO;
 
-// the lengths of the arrays: what is read at a time, and a case's blobs as words and as bytes
+// the lengths of the arrays: what is read at a time, and a case's blobs as words (two images, each one word longer than a library may be) and as bytes
 pub const INPUT: usize = 65536;
 
-pub const WORDS: usize = 65537;
+pub const WORDS: usize = 131074;
 
 pub const BYTES: usize = 262400;
 
@@ -122,7 +122,15 @@ fn load_words(input: &mut [u8; INPUT], feed: Feed, n: usize, words: &mut [u64]) 
     take_words(input, feed, &mut words[..k])
 }
 
-// A case's two blobs: the first as words where its op reads an image or a text (1, 2, 3, 7), as bytes for any other op; the second, a stream, as bytes.
+// Two images, the second behind the first.
+fn load_images(input: &mut [u8; INPUT], feed: Feed, head: Head, words: &mut [u64]) -> Feed {
+    let n = front_words(head.first / 8, words);
+    let second = load_words(input, feed, head.first, words);
+    load_words(input, second, head.second, &mut words[n..])
+}
+
+// A case's two blobs: the first as words where its op reads an image or a text (1, 2, 3, 7), as bytes for any other op; the second, a stream, as bytes; both as words
+// where its op reads two images (9).
 pub fn load(
     input: &mut [u8; INPUT],
     feed: Feed,
@@ -136,6 +144,7 @@ pub fn load(
             let second = load_words(input, feed, head.first, words);
             load_bytes(input, second, head.second, bytes)
         }
+        9 => load_images(input, feed, head, words),
         _ => {
             let second = load_bytes(input, feed, head.first, bytes);
             skip(input, second, head.second)

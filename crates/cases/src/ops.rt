@@ -157,6 +157,36 @@ fn compile(head: Head, words: &[u64], file: &mut [u8]) -> Answer {
     compile_into(&words[..n], &mut file[..room])
 }
 
+fn merge_into(first: &[u64], second: &[u64], room: &mut [u64]) -> Answer {
+    fill_words(room);
+    let m = merge::merge(first, second, room);
+    let sum = sum_words(room);
+    Answer::Numbers(
+        merge::merged_number(m),
+        merge::merged_value(m),
+        merge::merged_which(m),
+        sum,
+    )
+}
+
+// The second image stands behind the first.
+fn merge_behind(head: Head, first: &[u64], behind: &[u64], library: &mut [u64]) -> Answer {
+    let k = front_words(head.second / 8, behind);
+    let room = front_words(head.room, library);
+    if k * 8 < head.second || room < head.room {
+        return Answer::Beyond;
+    }
+    merge_into(first, &behind[..k], &mut library[..room])
+}
+
+fn merge(head: Head, words: &[u64], library: &mut [u64]) -> Answer {
+    let n = front_words(head.first / 8, words);
+    if n * 8 < head.first {
+        return Answer::Beyond;
+    }
+    merge_behind(head, &words[..n], &words[n..], library)
+}
+
 pub fn answer(
     head: Head,
     words: &[u64],
@@ -174,6 +204,7 @@ pub fn answer(
         6 => compress(head, bytes),
         7 => expand(head, words),
         8 => line(head, bytes),
+        9 => merge(head, words, library),
         _ => Answer::NotCarried,
     }
 }

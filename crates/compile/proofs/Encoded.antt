@@ -203,11 +203,11 @@ module _ (ws : List ℕ) (l : Library) (e : check ws ≡ good l) where
   view-plain = view-named l (check-sound ws l e)
 
   -- what a table of it answers, it answers
-  pub image-answers : (table : List ℕ) (r : Compiled) (before after : List ℕ) → table ≡ tableOf ws → Compiles (tableView ws table) r before after → Answers (ofWalk (compileView (length before) (view l))) r before after
+  pub image-answers : (table : List ℕ) (r : Compiled) (before after : List ℕ) → table ≡ tableOf ws → Compiles (tableView ws table) (tableView ws table) r before after → Answers (ofWalk (compileView (length before) (view l))) r before after
   image-answers table r before after t c =
       let i = image-table in
       let v : tableView ws table ≡ view l = ap (tableView ws) (t ∙ tables-all ws (i .place) (i .count)) ∙ i .is in
-      subst (λ (ds : List DeckView). Compiles ds r before after) v c view-plain
+      subst (λ (ds : List DeckView). Compiles ds ds r before after) v c view-plain view-plain
 
 -- BOTH ANSWERS OF THE CHECK
 module _ (ws before : List ℕ) where

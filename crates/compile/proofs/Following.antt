@@ -201,8 +201,8 @@ module _ (space : List ℕ) where
         go true p q = p
         go false p q = q
 
-    pub decks-follows : Follows w (walkDecks ds room (fullChoice ds) [] 0) (decksOf w ds ds 0 0 space)
-    decks-follows = subst (λ (o : List ℕ). Follows w (walkDecks ds room (fullChoice ds) [] 0) (decksOf w ds ds 0 0 o)) (start w) (decks-from ds plain [] 0 (record { long = refl; few = omega arith }))
+    pub decks-follows : (es : List DeckView) → Each (λ d. Each Named (d .lines)) es → Follows w (walkDecks ds room (fullChoice es) [] 0) (decksOf w ds es 0 0 space)
+    decks-follows es named = subst (λ (o : List ℕ). Follows w (walkDecks ds room (fullChoice es) [] 0) (decksOf w ds es 0 0 o)) (start w) (decks-from es named [] 0 (record { long = refl; few = omega arith }))
       where
         start : (b : Bool) → into b [] space ≡ space
         start true = refl
@@ -245,21 +245,21 @@ module _ (space : List ℕ) (x : Walk) (r : Walked) (o : List ℕ) (f : Follows 
         go (walked ls m) h u = let c : t ≡ On (length ls) m = ap (λ (s : State). s .answer) (u .1) in let z : _≡_ {A = ℕ} 0 1 = cc in omega arith
         go (halted j c d) h u = let v : r ≡ Halted j c d = h .0 in let z : _≡_ {A = ℕ} 0 1 = cc in omega arith
 
--- of a view
-module _ (space : List ℕ) (ds : List DeckView) (plain : Each (λ d. Each Named (d .lines)) ds) (r : Walked) (o : List ℕ)
-    (e : state r o ≡ decksOf false ds ds 0 0 space) where
+-- of a view, and the decks chosen of it
+module _ (space : List ℕ) (ds : List DeckView) (plain : Each (λ d. Each Named (d .lines)) ds) (es : List DeckView) (named : Each (λ d. Each Named (d .lines)) es)
+    (r : Walked) (o : List ℕ) (e : state r o ≡ decksOf false ds es 0 0 space) where
   abbrev walk : Walk
-  walk = walkDecks ds (length space / 91) (fullChoice ds) [] 0
+  walk = walkDecks ds (length space / 91) (fullChoice es) [] 0
 
   first : Follows space false walk (state r o)
-  first = subst (λ (s : State). Follows space false walk s) (sym e) (decks-follows space false ds plain)
+  first = subst (λ (s : State). Follows space false walk s) (sym e) (decks-follows space false ds plain es named)
 
   pub table-halted : (k : Stop) (a b : ℕ) → r ≡ Halted k a b → Answers (ofWalk walk) (Refused k a b) space o
   table-halted k a b q = first-halted space walk r o first k a b q
 
-  module _ (l n : ℕ) (on : r ≡ On l n) (t : Walked) (p : List ℕ) (again : state t p ≡ decksOf true ds ds 0 0 o) where
+  module _ (l n : ℕ) (on : r ≡ On l n) (t : Walked) (p : List ℕ) (again : state t p ≡ decksOf true ds es 0 0 o) where
     second : Follows space true walk (state t p)
-    second = subst (λ (s : State). Follows space true walk s) (sym (again ∙ ap (decksOf true ds ds 0 0) (first-kept space walk r o first))) (decks-follows space true ds plain)
+    second = subst (λ (s : State). Follows space true walk s) (sym (again ∙ ap (decksOf true ds es 0 0) (first-kept space walk r o first))) (decks-follows space true ds plain es named)
 
     pub table-done : (l′ n′ : ℕ) → t ≡ On l′ n′ → Answers (ofWalk walk) (Done l′ n′) space p
     table-done l′ n′ q = second-done space walk r o first l n on t p second l′ n′ q

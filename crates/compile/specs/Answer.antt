@@ -10,8 +10,8 @@ use Rattle.words.specs.Names.{isNameWord}
 use Rattle.library.specs.Library.{Library}
 use Rattle.library.specs.Each.{Each}
 use Rattle.library.specs.Check.{good, check}
-use Rattle.walks.specs.View.{Shown, DeckView, view}
-use Rattle.compile.specs.Compile.{Compiling, ofWalk, compileView, compiled, compileInto}
+use Rattle.walks.specs.View.{Shown, DeckView, view, fullChoice}
+use Rattle.compile.specs.Compile.{Compiling, ofWalk, compileChosen, compileView, compiled, compileInto}
 use Rattle.compile.specs.declared.Compiled.{Compiled}
 
 -- every card shown has an owner with a name, and a number of 18 bits
@@ -24,8 +24,9 @@ Plain ds = Each (λ d. Each Named (d .lines)) ds
 abbrev pub Answers : Compiling → Compiled → List ℕ → List ℕ → Type 0
 Answers c r before after = (r ≡ compiled c) × (after ≡ compileInto c before)
 
-abbrev pub Compiles : List DeckView → Compiled → List ℕ → List ℕ → Type 0
-Compiles ds r before after = Plain ds → Answers (ofWalk (compileView (length before) ds)) r before after
+-- the normal ones of the decks that are chosen, each called deck looked up among all
+abbrev pub Compiles : List DeckView → List DeckView → Compiled → List ℕ → List ℕ → Type 0
+Compiles ds chosen r before after = Plain ds → Plain chosen → Answers (ofWalk (compileChosen (length before) ds (fullChoice chosen))) r before after
 
 abbrev pub CompilesImage : List ℕ → Compiled → List ℕ → List ℕ → Type 0
 CompilesImage ws r before after = (l : Library) → check ws ≡ good l → Answers (ofWalk (compileView (length before) (view l))) r before after

@@ -1,5 +1,5 @@
 -- The compile file of a library, and what the program writes (01, "The compile file", "Shown example").
---   over a view         compileView
+--   over a view         compileChosen, compileView
 --   over images         Compiling, compiling
 --   the answer          compiled, compileInto, stopNumber, compiledNumber, compiledFirst, compiledSecond
 --   the program         program
@@ -28,9 +28,12 @@ use Rattle.compile.specs.declared.Compiled.the-variants.{Done, Library a
 abbrev pub lineRoom : ℕ → ℕ
 lineRoom room = room / 91
 
--- the decks are looked up in the whole view; what is written is the choice
+-- called decks are looked up in the whole view; what is written is the choice, of which the full file is one
+abbrev pub compileChosen : ℕ → List DeckView → List DeckView → Walk
+compileChosen room ds chosen = walkDecks ds (lineRoom room) chosen [] 0
+
 abbrev pub compileView : ℕ → List DeckView → Walk
-compileView room ds = walkDecks ds (lineRoom room) (fullChoice ds) [] 0
+compileView room ds = compileChosen room ds (fullChoice ds)
 
 -- an image: "A compile checks the library first, then goes in writing order"
 pub data Compiling : Type 0 where

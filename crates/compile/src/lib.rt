@@ -33,16 +33,23 @@ pub enum Compiled {
 }
 
 // The walk first only counts, so that a refusal at the last card has written nothing; then it writes.
-fn compile_table(image: &[u64], table: &[u64], out: &mut [u8]) -> Compiled
-    ensures { λ r. ⌜ Compiles (tableView (now (image .entry)) (now (table .entry))) r (now (out .entry)) (now (out .exit)) ⌝ }
+fn compile_chosen(image: &[u64], table: &[u64], chosen: &[u64], out: &mut [u8]) -> Compiled
+    ensures { λ r. ⌜ Compiles (tableView (now (image .entry)) (now (table .entry))) (tableView (now (image .entry)) (now (chosen .entry))) r (now (out .entry)) (now (out .exit)) ⌝ }
 {
-    match walk_decks(image, table, false, out) {
+    match walk_decks(image, table, chosen, false, out) {
         Walked::Halted(k, o, s) => Compiled::Refused(k, o, s),
-        Walked::On(_, _) => match walk_decks(image, table, true, out) {
+        Walked::On(_, _) => match walk_decks(image, table, chosen, true, out) {
             Walked::Halted(k, o, s) => Compiled::Refused(k, o, s),
             Walked::On(l, n) => Compiled::Done(l, n),
         },
     }
+}
+
+// All decks of a table.
+fn compile_table(image: &[u64], table: &[u64], out: &mut [u8]) -> Compiled
+    ensures { λ r. ⌜ Compiles (tableView (now (image .entry)) (now (table .entry))) (tableView (now (image .entry)) (now (table .entry))) r (now (out .entry)) (now (out .exit)) ⌝ }
+{
+    compile_chosen(image, table, table, out)
 }
 
 // An image that the check accepts.

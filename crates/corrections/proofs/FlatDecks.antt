@@ -13,11 +13,13 @@ use Rattle.lines.specs.declared.CardName.{CardName}
 use Rattle.library.specs.Each.{Each}
 use Rattle.library.specs.Library.{Card, Deck, Library, deckCard, deckCards, joined, parts, stream}
 use Rattle.library.specs.Sound.{noTwo, sameCard, Sound}
+use Rattle.library.proofs.Appends.{each-parts}
 use Rattle.library.proofs.Each.{each-map, each-two, each-of-map, and-parts}
 use Rattle.library.proofs.NoTwo.{any-none, none-any}
+use Rattle.library.proofs.Anys.{bool-iff}
 use Rattle.corrections.specs.Step.{Spot, isNamed, isDeckSpot, isBarred}
 use Rattle.corrections.specs.Flat.{indexBy, ahead, Stood, flat, between, deckNumbers, isDeckCard}
-use Rattle.corrections.proofs.FlatFind.{bool-iff, eqb-yes, eqb-no, flat-lower, Passing, index-passes}
+use Rattle.corrections.proofs.FlatFind.{eqb-yes, eqb-no, flat-lower, Passing, index-passes}
 
 -- PARTS THAT BEGIN WITH THE ONE CARD THAT PASSES
 pub between-shift : (cs ds : List Card) (x y v w : ℕ) → v ≡ length cs + x → w ≡ length cs + y → between v w (cs ++ ds) ≡ between x y ds
@@ -140,21 +142,17 @@ Unlike c d = T (not (sameCard c d))
 unlike-turn : (c d : Card) → Unlike c d → Unlike d c
 unlike-turn c d t = not-T (sameCard d c) (λ u. T-not (sameCard c d) t (same-turn d c u))
 
-each-left : (P : Card → Type 0) (xs ys : List Card) → Each P (xs ++ ys) → Each P xs × Each P ys
-each-left P [] ys h = (tt, h)
-each-left P (x ∷ xs) ys h = let r = each-left P xs ys (h .1) in ((h .0, r .0), r .1)
-
 -- each of the first is unlike each of the second, and no two of the second are alike
 apart : (xs ys : List Card) → T (noTwo sameCard (xs ++ ys)) → Each (λ x. Each (Unlike x) ys) xs × T (noTwo sameCard ys)
 apart [] ys t = (tt, t)
 apart (x ∷ xs) ys t =
     let p = and-parts (not (any (sameCard x) (xs ++ ys))) (noTwo sameCard (xs ++ ys)) t in
-    let r = apart xs ys (p .1) in ((each-left (Unlike x) xs ys (any-none (sameCard x) (xs ++ ys) (p .0)) .1, r .0), r .1)
+    let r = apart xs ys (p .1) in ((each-parts (Unlike x) xs ys (any-none (sameCard x) (xs ++ ys) (p .0)) .1, r .0), r .1)
 
 -- a card unlike all cards of the decks is unlike their deck cards, and unlike their other cards
 unlike-decks : (c : Card) (ds : List Deck) → Each (Unlike c) (joined (map deckCards ds)) → Each (λ d. Unlike c (deckCard d) × Each (Unlike c) (d .cards)) ds
 unlike-decks c [] h = tt
-unlike-decks c (d ∷ ds) h = let r = each-left (Unlike c) (d .cards) (joined (map deckCards ds)) (h .1) in ((h .0, r .0), unlike-decks c ds (r .1))
+unlike-decks c (d ∷ ds) h = let r = each-parts (Unlike c) (d .cards) (joined (map deckCards ds)) (h .1) in ((h .0, r .0), unlike-decks c ds (r .1))
 
 turned : {A B : Type 0} (P : A → B → Type 0) (xs : List A) (ys : List B) → Each (λ x. Each (P x) ys) xs → Each (λ y. Each (λ x. P x y) xs) ys
 turned P xs [] h = tt
@@ -166,7 +164,7 @@ decks-apart [] t = tt
 decks-apart (d ∷ ds) t =
     let rest : List Card = joined (map deckCards ds) in
     let p = and-parts (not (any (sameCard (deckCard d)) (d .cards ++ rest))) (noTwo sameCard (d .cards ++ rest)) t in
-    let first = each-left (Unlike (deckCard d)) (d .cards) rest (any-none (sameCard (deckCard d)) (d .cards ++ rest) (p .0)) in
+    let first = each-parts (Unlike (deckCard d)) (d .cards) rest (any-none (sameCard (deckCard d)) (d .cards ++ rest) (p .0)) in
     let q = apart (d .cards) rest (p .1) in
     let cross : Each (λ c. Each (λ e. Unlike c (deckCard e)) ds) (d .cards) = each-map _ _ (λ c u. each-map _ _ (λ e r. r .0) ds (unlike-decks c ds u)) (d .cards) (q .0) in
     let back : Each (λ e. Each (Unlike (deckCard e)) (d .cards)) ds =

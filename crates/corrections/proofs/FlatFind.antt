@@ -11,6 +11,7 @@ use Rattle.words.specs.Base.{if_then_else_, placeFrom}
 use Rattle.words.proofs.Tests.{T-true}
 use Rattle.lines.specs.declared.CardName.{CardName}
 use Rattle.library.specs.Library.{Card, Library, joined, parts, stream, entryOf}
+use Rattle.library.proofs.Anys.{bool-iff}
 use Rattle.corrections.specs.Step.{Spot, spotIn, findFrom, isNamed, find, isBackwards, isYankPart}
 use Rattle.corrections.specs.Flat.{indexBy, ahead, Stood, flat, FoundAs}
 
@@ -122,12 +123,6 @@ pub stood-below : (ps : List (List Card)) (p i : ℕ) → Stood ps p i → ahead
 stood-below [] p i s = absurd s
 stood-below (cs ∷ ps) zero i s = omega (arith, s, length-append cs (joined ps))
 stood-below (cs ∷ ps) (suc p) i s = omega (arith, stood-below ps p i s, length-append cs (joined ps))
-
-pub bool-iff : (a b : Bool) → (T a → T b) → (T b → T a) → a ≡ b
-bool-iff true true f g = refl
-bool-iff true false f g = absurd (f tt)
-bool-iff false true f g = absurd (g tt)
-bool-iff false false f g = refl
 
 -- tests of numbers that are known
 pub ltb-yes : (m n : ℕ) → m < n → ltb m n ≡ true

@@ -17,8 +17,8 @@ use Rattle.library.proofs.Each.{each-two}
 use Rattle.library.proofs.Rollback.{yankOf}
 use Rattle.library.proofs.Acts.{card-numbers, sound-stable, sound-lower}
 use Rattle.library.proofs.Flags.{yankList, flags, yanked-rule, flags-solve, flags-only}
+use Rattle.library.proofs.Anys.{bool-iff}
 use Rattle.corrections.specs.Step.{unitNumber, withDecks, withEntry}
-use Rattle.corrections.proofs.FlatFind.{bool-iff}
 
 -- A CHANGE IN A DECK
 pub flags-decks : (l : Library) (ds : List Deck) → yanked (withDecks l ds) ≡ yanked l
@@ -26,10 +26,9 @@ unfolding yanked settledYanks yanksOf
 flags-decks l ds = refl
 
 -- A NEW NAME
-stable-map : (directory more : List ℕ) (cs : List Card) → Each (λ c. targets (directory ++ more) (c .line) ≡ targets directory (c .line)) cs
-    → map (yankOf (directory ++ more)) cs ≡ map (yankOf directory) cs
-stable-map directory more [] h = refl
-stable-map directory more (c ∷ cs) h = λ i. record { acts = h .0 i; bytes = history c } ∷ stable-map directory more cs (h .1) i
+pub stable-yanks : (directory more : List ℕ) (cs : List Card) → Each (λ c. targets more (c .line) ≡ targets directory (c .line)) cs → map (yankOf more) cs ≡ map (yankOf directory) cs
+stable-yanks directory more [] h = refl
+stable-yanks directory more (c ∷ cs) h = λ i. record { acts = h .0 i; bytes = history c } ∷ stable-yanks directory more cs (h .1) i
 
 pub flags-entry : (l : Library) (ds : List Deck) (w : ℕ) → Sound l → Sound (withEntry (withDecks l ds) w) → yanked (withEntry (withDecks l ds) w) 0 ≡ yanked l 0
 flags-entry l ds w s t = fun-ext same
@@ -38,7 +37,7 @@ flags-entry l ds w s t = fun-ext same
     m = withEntry (withDecks l ds) w
 
     cards : yankList m ≡ yankList l
-    cards = stable-map (l .directory) (w ∷ []) (l .yanks) (sound-stable l s (w ∷ []))
+    cards = stable-yanks (l .directory) (l .directory ++ (w ∷ [])) (l .yanks) (sound-stable l s (w ∷ []))
 
     set : flags m ≡ flags l
     set = flags-only m t (flags l) (λ n. flags-solve l s n ∙ sym (ap (λ (ys : List Yank). yankedBy ys (flags l) 0 n) cards))

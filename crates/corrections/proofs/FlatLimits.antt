@@ -1,104 +1,21 @@
--- The limits of a library by its counts: entries, decks, cards, bytes of each history, and the words of its cards, which do not depend on what is yanked.
+-- Counts of changed streams: cards, short histories and words after a card is put in or a range is changed.
 use Prim.Native.Nat.{ℕ, zero, suc, _+_, _-_, _≤_, _<_}
 use native.Mathlib.Omega.{arith}
 use mathlib.Core.Path.{_≡_, refl, sym, ap, ap₂, _∙_, subst}
 use mathlib.Core.Bool.{Bool, true, false, _&&_, not}
 use mathlib.Core.List.{List, [], _∷_, _++_, map}
-use lib.Dec.{T, leb, leb→le, le→leb}
-use lib.ListN.{length, take, drop, length-append, length-map, take-append-drop}
-use Rattle.words.specs.Base.{all, allOf}
-use Rattle.words.specs.Text.{textWords}
+use lib.Dec.{T}
+use lib.ListN.{length, take, drop, length-append, take-append-drop}
+use Rattle.words.specs.Base.{all}
 use Rattle.words.proofs.Tests.{T-true}
-use Rattle.library.specs.Each.{Each}
-use Rattle.library.specs.Library.{Byte, Card, Deck, Library, history, stream, nameAt, deckNames}
-use Rattle.library.specs.Yanks.{active, yanked}
-use Rattle.library.specs.Image.{byteBits, furtherWords, headWords, cardWords, cardsWords, tables, encode, shortHistory, limitTests, withinLimits}
-use Rattle.library.proofs.Each.{allOf-each, each-allOf}
+use Rattle.library.specs.Library.{Card}
+use Rattle.library.specs.Image.{cardWords, cardsWords, shortHistory}
+use Rattle.library.proofs.Sizes.{cards-append}
 use Rattle.corrections.specs.Step.{putIn, overRange}
 use Rattle.corrections.specs.Flat.{between}
-use Rattle.corrections.proofs.FlatFind.{bool-iff}
-use Rattle.corrections.proofs.FlatStream.{cards-append, encode-flat, range-cut}
+use Rattle.corrections.proofs.FlatStream.{range-cut}
 
--- HOW MANY WORDS: the same under any flags
-further-length : (yk zk : ℕ → Bool) (bs : List Byte) → length (furtherWords (map (byteBits yk) bs)) ≡ length (furtherWords (map (byteBits zk) bs))
-further-length yk zk [] = refl
-further-length yk zk (a ∷ []) = refl
-further-length yk zk (a ∷ b ∷ []) = refl
-further-length yk zk (a ∷ b ∷ c ∷ r) = ap suc (further-length yk zk r)
-
-pub card-size : (yk zk : ℕ → Bool) (c : Card) → length (cardWords yk c) ≡ length (cardWords zk c)
-unfolding cardWords
-card-size yk zk c =
-    let text : List ℕ = textWords (c .line) in
-    let a : List ℕ = headWords (active yk c) (length text) (c .seq) (map (byteBits yk) (history c)) in
-    let b : List ℕ = headWords (active zk c) (length text) (c .seq) (map (byteBits zk) (history c)) in
-    length-append a text ∙ ap (λ (n : ℕ). suc n + length text) (further-length yk zk (c .later)) ∙ sym (length-append b text)
-
-pub cards-size : (yk zk : ℕ → Bool) (cs : List Card) → length (cardsWords yk cs) ≡ length (cardsWords zk cs)
-cards-size yk zk [] = refl
-cards-size yk zk (c ∷ cs) =
-    length-append (cardWords yk c) (cardsWords yk cs) ∙ ap₂ _+_ (card-size yk zk c) (cards-size yk zk cs) ∙ sym (length-append (cardWords zk c) (cardsWords zk cs))
-
--- the words of a library's cards, and of the library
-unfoldable pub words : Library → ℕ
-words l = length (cardsWords (yanked l 0) (stream l))
-
-pub words-under : (yk : ℕ → Bool) (l : Library) → length (cardsWords yk (stream l)) ≡ words l
-unfolding words
-words-under yk l = cards-size yk (yanked l 0) (stream l)
-
-tables-length : (l : Library) → length (tables l) ≡ 3 + length (l .directory) + length (l .decks)
-unfolding deckNames
-tables-length l =
-    omega (arith, length-append (l .directory) (deckNames l), length-map (l .decks) (λ d. nameAt (l .directory) (d .number)))
-
-pub encode-length : (l : Library) → length (encode l) ≡ 3 + length (l .directory) + length (l .decks) + words l
-unfolding words
-encode-length l = ap length (encode-flat l) ∙ length-append (tables l) (cardsWords (yanked l 0) (stream l)) ∙ ap (λ (n : ℕ). n + length (cardsWords (yanked l 0) (stream l))) (tables-length l)
-
--- THE LIMITS, both ways
-pub record Small (l : Library) : Type 0 where
-  pub entries : length (l .directory) ≤ 1023
-  pub decks : suc (length (l .decks)) ≤ 255
-  pub cards : length (stream l) ≤ 16383
-  pub short : T (all shortHistory (stream l))
-  pub total : 3 + length (l .directory) + length (l .decks) + words l ≤ 65536
-
-pub within-small : (l : Library) → T (withinLimits l) → Small l
-unfolding withinLimits
-within-small l t =
-    let h : Each T (limitTests l) = allOf-each (limitTests l) t in
-    let e : length (encode l) ≡ 3 + length (l .directory) + length (l .decks) + words l = encode-length l in record {
-      entries = leb→le (length (l .directory)) 1023 (h .0);
-      decks = leb→le (suc (length (l .decks))) 255 (h .1 .0);
-      cards = leb→le (length (stream l)) 16383 (h .1 .1 .0);
-      short = h .1 .1 .1 .0;
-      total = omega (arith, leb→le (length (encode l)) 65536 (h .1 .1 .1 .1 .0));
-    }
-
-small-T : (l : Library) → Small l → T (withinLimits l)
-unfolding withinLimits
-small-T l s =
-    let e : length (encode l) ≡ 3 + length (l .directory) + length (l .decks) + words l = encode-length l in
-    let n : length (encode l) ≤ 65536 = omega (arith, s .total) in
-    each-allOf (limitTests l) (
-      le→leb (length (l .directory)) 1023 (s .entries),
-      (
-        le→leb (suc (length (l .decks))) 255 (s .decks),
-        (
-          le→leb (length (stream l)) 16383 (s .cards),
-          (s .short, (le→leb (length (encode l)) 65536 n, tt)),
-        ),
-      ),
-    )
-
-pub small-within : (l : Library) → Small l → withinLimits l ≡ true
-small-within l s = T-true (withinLimits l) (small-T l s)
-
-pub not-small : (l : Library) → (Small l → ⊥) → withinLimits l ≡ false
-not-small l f = bool-iff (withinLimits l) false (λ t. absurd (f (within-small l t))) (λ t. absurd t)
-
--- COUNTS OF CHANGED STREAMS
+-- A CARD PUT IN
 pub all-both : {A : Type 0} (p : A → Bool) (xs ys : List A) → all p (xs ++ ys) ≡ (all p xs && all p ys)
 all-both p [] ys = refl
 all-both p (x ∷ xs) ys = go (p x) (all-both p xs ys)

@@ -11,7 +11,8 @@ use Rattle.words.specs.Base.{any}
 use Rattle.words.proofs.Tests.{T-true}
 use Rattle.library.specs.Library.{Card, Deck, Library, deckCard, deckCards, joined, parts, stream}
 use Rattle.library.specs.Yanks.{Target, wholeSet, covers, Yank, lastSays, yankedBy, yanksOf, settledYanks, yanked}
-use Rattle.library.specs.Image.{cardWords, cardsWords, decksWords, tables, encode}
+use Rattle.library.specs.Image.{cardsWords, decksWords, tables, encode}
+use Rattle.library.proofs.Sizes.{cards-append}
 use Rattle.corrections.specs.Step.{unitNumber, withYanks, withDecks, withEntry, changeAt, putIn, mark, overRange, numberAt, markIn, Spot, isDeckSpot, isBarred}
 use Rattle.corrections.specs.Flat.{ahead, Stood, flat, HasPlace, flatPlace, between}
 use Rattle.corrections.proofs.FlatFind.{eqb-no}
@@ -184,18 +185,17 @@ mark-flat l was a b s e off le = go (a .part) (b .part) e s off
         ∙ sym (range-right (marks l was) (l .yanks) (joined ps) (n + ahead ps p + i) (n + ahead ps q + j) (ahead ps p + i) (ahead ps p + j) (omega arith) (omega (arith, ap (ahead ps) g)))
 
 -- THE WORDS: tables, then the words of the stream's cards
-pub cards-append : (yk : ℕ → Bool) (cs ds : List Card) → cardsWords yk (cs ++ ds) ≡ cardsWords yk cs ++ cardsWords yk ds
-cards-append yk [] ds = refl
-cards-append yk (c ∷ cs) ds = ap (λ (r : List ℕ). cardWords yk c ++ r) (cards-append yk cs ds) ∙ sym (append-assoc (cardWords yk c) (cardsWords yk cs) (cardsWords yk ds))
-
 decks-words : (l : Library) (ds : List Deck) → decksWords (yanked l) ds ≡ cardsWords (yanked l 0) (joined (map deckCards ds))
 decks-words l [] = refl
 decks-words l (d ∷ ds) =
     ap₂ (λ (a b : List ℕ). a ++ b) (ap (λ (yk : ℕ → Bool). cardsWords yk (deckCards d)) (yanked-deck l (d .number))) (decks-words l ds)
     ∙ sym (cards-append (yanked l 0) (deckCards d) (joined (map deckCards ds)))
 
+pub cards-flat : (l : Library) → cardsWords (yanked l 0) (l .yanks) ++ decksWords (yanked l) (l .decks) ≡ cardsWords (yanked l 0) (stream l)
+unfolding stream
+cards-flat l =
+    ap (λ (r : List ℕ). cardsWords (yanked l 0) (l .yanks) ++ r) (decks-words l (l .decks)) ∙ sym (cards-append (yanked l 0) (l .yanks) (joined (map deckCards (l .decks))))
+
 pub encode-flat : (l : Library) → encode l ≡ tables l ++ cardsWords (yanked l 0) (stream l)
-unfolding encode stream
-encode-flat l =
-    ap (λ (r : List ℕ). tables l ++ r)
-    (ap (λ (r : List ℕ). cardsWords (yanked l 0) (l .yanks) ++ r) (decks-words l (l .decks)) ∙ sym (cards-append (yanked l 0) (l .yanks) (joined (map deckCards (l .decks)))))
+unfolding encode
+encode-flat l = ap (λ (r : List ℕ). tables l ++ r) (cards-flat l)

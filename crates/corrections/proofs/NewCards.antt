@@ -4,7 +4,7 @@ use native.Mathlib.Omega.{arith}
 use mathlib.Core.Path.{_≡_, sym, ap, _∙_, subst}
 use mathlib.Core.Bool.{true, _&&_, not}
 use mathlib.Core.List.{List, [], _∷_, _++_, map}
-use lib.Dec.{T, eqb, eqb→eq, eqb-refl, leb→le, not-T}
+use lib.Dec.{T, eqb, eqb→eq, leb→le, not-T}
 use lib.ListN.{length}
 use Rattle.words.specs.Base.{all}
 use Rattle.words.proofs.Tests.{and-both}
@@ -18,6 +18,7 @@ use Rattle.library.specs.Growth.{count}
 use Rattle.library.specs.Sound.{noTwo, soundLine, isNamed, sameCard, SoundCard, BeginsNoDeck, namesLowerSets, SoundDeck, Sound}
 use Rattle.library.proofs.Each.{each-map, and-parts, allOf-each}
 use Rattle.library.proofs.Appends.{each-append}
+use Rattle.library.proofs.NoTwo.{same-turn}
 use Rattle.library.proofs.Inserted.{Inserted, inserted-each, inserted-length, inserted-left, inserted-right, inserted-at, inserted-end, inserted-no-two}
 use Rattle.corrections.specs.Safe.{key, Free, Begun}
 use Rattle.corrections.specs.Step.{withYanks, withDecks, withCards, changeAt, putIn}
@@ -26,14 +27,6 @@ use Rattle.corrections.proofs.Parts.{each-change, numbers-change, inser
 stream-short : (l : Library) → T (withinLimits l) → length (stream l) ≤ 16383
 unfolding withinLimits
 stream-short l t = leb→le (length (stream l)) 16383 (allOf-each (limitTests l) t .1 .1 .0)
-
-pub same-turn : (c d : Card) → T (sameCard c d) → T (sameCard d c)
-same-turn c d t =
-    let q = and-parts (eqb (c .owner) (d .owner)) (eqb (c .seq) (d .seq)) t in
-    and-both (eqb (d .owner) (c .owner)) (eqb (d .seq) (c .seq)) (flip (c .owner) (d .owner) (q .0)) (flip (c .seq) (d .seq) (q .1))
-  where
-    flip : (m n : ℕ) → T (eqb m n) → T (eqb n m)
-    flip m n u = subst (λ (x : ℕ). T (eqb x m)) (eqb→eq m n u) (eqb-refl m)
 
 -- a new card of the unit
 module _ (l : Library) (next : ℕ) (line : List ℕ) (s : Sound l) (b : Begun l next) where

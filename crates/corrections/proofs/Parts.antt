@@ -5,8 +5,8 @@ use mathlib.Core.Path.{_≡_, refl, sym, ap, ap₂, _∙_, subst}
 use mathlib.Core.List.{List, [], _∷_, _++_, map}
 use lib.ListN.{length}
 use Rattle.library.specs.Each.{Each}
-use Rattle.library.specs.Library.{Card, Deck, Library, deckCard, deckCards, joined, stream}
-use Rattle.library.proofs.Appends.{each-append, map-append}
+use Rattle.library.specs.Library.{Card, Deck, deckCard, deckCards, joined}
+use Rattle.library.proofs.Appends.{map-append}
 use Rattle.library.proofs.Inserted.{Inserted, put, past, inserted-left, inserted-right, inserted-at}
 use Rattle.corrections.specs.Safe.{key}
 use Rattle.corrections.specs.Step.{withCards, changeAt, putIn, overRange}
@@ -58,11 +58,3 @@ inserted-change y i (suc k) (d ∷ ds) lt = inserted-left y (deckCards d) (inser
 pub inserted-deck : (d : Deck) → d .cards ≡ [] → (ds : List Deck) → Inserted (deckCard d) (joined (map deckCards ds)) (joined (map deckCards (ds ++ (d ∷ []))))
 inserted-deck d e [] = subst (λ (cs : List Card). Inserted (deckCard d) [] ((deckCard d ∷ cs) ++ [])) (sym e) put
 inserted-deck d e (x ∷ ds) = inserted-left (deckCard d) (deckCards x) (inserted-deck d e ds)
-
-each-joined : (P : Card → Type 0) (ds : List Deck) → Each (λ d. P (deckCard d) × Each P (d .cards)) ds → Each P (joined (map deckCards ds))
-each-joined P [] h = tt
-each-joined P (d ∷ ds) h = each-append P (deckCards d) (joined (map deckCards ds)) (h .0 .0, h .0 .1) (each-joined P ds (h .1))
-
-pub each-stream : (P : Card → Type 0) (l : Library) → Each P (l .yanks) → Each (λ d. P (deckCard d) × Each P (d .cards)) (l .decks) → Each P (stream l)
-unfolding stream
-each-stream P l y d = each-append P (l .yanks) (joined (map deckCards (l .decks))) y (each-joined P (l .decks) d)

@@ -20,20 +20,15 @@ use Rattle.library.specs.Sound.{noTwo, soundLine, isNamed, sameCard, SoundCard,
 use Rattle.library.proofs.Each.{each-map, each-two, each-of-map, and-parts, each-all}
 use Rattle.library.proofs.Appends.{each-append, any-append, map-append}
 use Rattle.library.proofs.Anys.{all-member}
+use Rattle.library.proofs.NoTwo.{same-turn}
+use Rattle.library.proofs.Streams.{each-stream}
+use Rattle.library.proofs.EntryNames.{not-purged}
 use Rattle.library.proofs.Inserted.{Inserted, inserted-each, inserted-length, inserted-left, inserted-end, inserted-no-two}
 use Rattle.library.proofs.Acts.{card-numbers, deck-number}
 use Rattle.library.proofs.Directories.{name-end, named-end, entry-none, names-end, entries-end, card-append, deck-append, deck-names-append, yank-append}
 use Rattle.corrections.specs.Safe.{key, Free, Begun}
 use Rattle.corrections.specs.Step.{withDecks, withEntry}
-use Rattle.corrections.proofs.Parts.{inserted-deck, each-stream}
-use Rattle.corrections.proofs.NewCards.{same-turn}
-
-purged-no-name : T (isNameWord purged) → ⊥
-unfolding isNameWord isName nameOf
-purged-no-name u = u
-
-not-purged : (w : ℕ) → T (isNameWord w) → w ≡ purged → ⊥
-not-purged w t e = purged-no-name (subst (λ (x : ℕ). T (isNameWord x)) e t)
+use Rattle.corrections.proofs.Parts.{inserted-deck}
 
 -- every card has a number of the directory
 owners : (l : Library) → Sound l → Each (λ c. c .owner ≤ count l) (stream l)

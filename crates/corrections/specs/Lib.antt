@@ -6,4 +6,4 @@ pub mod Cut
 pub mod Kept
 pub mod Flat
 pub mod Safe
-pub mod Counts
+pub mod Numbering

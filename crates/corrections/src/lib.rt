@@ -1,8 +1,8 @@
-// The corrections of a library, without their code: what a run answers, 01's numbers of it, and the limits that it keeps.
+// The corrections of a library, without their code: what a run answers and 01's numbers of it, the next line, and the next card's number.
 ghost use mathlib.Core.Path.{_≡_};
 ghost use lib.ListN.{length};
 ghost use Rattle.lines.specs.Directive.{lineAfter};
-ghost use Rattle.corrections.specs.Counts.{withinCounts, numberAfter};
+ghost use Rattle.corrections.specs.Numbering.{numberAfter};
 ghost use Rattle.corrections.specs.Run.{whyNumber, ranNumber, ranValue};
 use library::Fault;
 
@@ -87,31 +87,6 @@ pub fn ran_value(r: Ran) -> u64
         Ran::Library(_, p) => p as u64,
         Ran::Refused(_, n) => n as u64,
     }
-}
-
-// the limits of rows 3, 5 and 1
-const ENTRIES: usize = 1023;
-
-const DECKS: usize = 255;
-
-const CARDS: usize = 16383;
-
-const WORDS: usize = 65536;
-
-// Whether a library of so many entries, decks (YANK$$$ among them), cards and words passes no limit of rows 1, 3 and 5 (31).
-pub fn within_limits(entries: usize, decks: usize, cards: usize, words: usize) -> bool
-    ensures { λ r. ⌜ r ≡ withinCounts entries decks cards words ⌝ }
-{
-    if ENTRIES < entries {
-        return false;
-    }
-    if DECKS < decks {
-        return false;
-    }
-    if CARDS < cards {
-        return false;
-    }
-    words <= WORDS
 }
 
 // Past any stream (19); up to here a place, a line and its end fit a number.

@@ -5,4 +5,13 @@ pub mod TakenBack
 pub mod Instances
 pub mod Cut
 pub mod CutShown
+pub mod MergedView
+pub mod JoinedViews
+pub mod MergedFile
+pub mod YankedIn
+pub mod TakenViews
+pub mod TakenFirst
+pub mod TakenSecond
+pub mod TakenIn
+pub mod MergeShown
 pub mod Promised

@@ -12,6 +12,15 @@ use Rattle.demands.proofs.TakenBack.{taken-back, restored}
 use Rattle.demands.proofs.Cut.{cut-parts}
 use Rattle.demands.proofs.Instances.{shown-back, none-spare}
 use Rattle.demands.proofs.CutShown.{shown-cut, none-spare-cut, size-needed}
+use Rattle.merge.proofs.Soundness.{merge-sound}
+use Rattle.merge.proofs.Limits.{merge-length, merge-limits}
+use Rattle.merge.proofs.Answers.{merged-passes, merge-fresh, merging-fresh}
+use Rattle.merge.proofs.MergedFlags.{yanked-first, yanked-second}
+use Rattle.merge.proofs.MergedImage.{image-merged}
+use Rattle.demands.proofs.MergedView.{view-merged}
+use Rattle.demands.proofs.MergedFile.{file-merged, file-in-full}
+use Rattle.demands.proofs.TakenIn.{yank-first, yank-second, file-first, file-second}
+use Rattle.demands.proofs.MergeShown.{merges-hold, merge-spare, numbers-spare, file-spare, yank-met, yank-spare}
 
 pub promised : Promises
 promised =
@@ -50,4 +59,26 @@ promised =
       shown-cut = shown-cut;
       none-spare-cut = none-spare-cut;
       size-needed = size-needed;
+      merge-sound = merge-sound;
+      merged-passes = merged-passes;
+      merge-length = merge-length;
+      merge-limits = merge-limits;
+      yanked-first = yanked-first;
+      yanked-second = yanked-second;
+      image-merged = image-merged;
+      view-merged = view-merged;
+      file-merged = file-merged;
+      file-in-full = file-in-full;
+      merge-fresh = merge-fresh;
+      merging-fresh = merging-fresh;
+      yank-first = yank-first;
+      yank-second = yank-second;
+      file-first = file-first;
+      file-second = file-second;
+      merges-hold = merges-hold;
+      merge-spare = merge-spare;
+      numbers-spare = numbers-spare;
+      file-spare = file-spare;
+      yank-met = yank-met;
+      yank-spare = yank-spare;
     }

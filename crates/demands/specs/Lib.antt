@@ -3,4 +3,7 @@ pub mod Demands
 pub mod Instances
 pub mod Cut
 pub mod CutShown
+pub mod MergedFile
+pub mod MergedYank
+pub mod MergeShown
 pub mod Promises

@@ -11,6 +11,10 @@ use Rattle.demands.specs.Cut.{B3}
 use Rattle.demands.specs.Shown.{AllHold}
 use Rattle.demands.specs.Instances.{ShownBack, NoneSpare}
 use Rattle.demands.specs.CutShown.{ShownCut, NoneSpareCut, SizeNeeded}
+use Rattle.merge.specs.Merged.{MergeSound, MergedPasses, MergeLength, MergeLimits, YankedFirst, YankedSecond, MergedImage, MergeFresh, MergingFresh}
+use Rattle.demands.specs.MergedFile.{ViewMerged, FileMerged, FileInFull}
+use Rattle.demands.specs.MergedYank.{YankFirst, YankSecond, FileFirst, FileSecond}
+use Rattle.demands.specs.MergeShown.{MergesHold, MergeSpare, NumbersSpare, FileSpare, YankMet, YankSpare}
 
 pub record Promises : Type 0 where
   -- DEMAND 2: line to card and back, words to packed bytes and back, nothing is gained or lost.
@@ -64,3 +68,33 @@ pub record Promises : Type 0 where
   pub shown-cut : ShownCut
   pub none-spare-cut : NoneSpareCut
   pub size-needed : SizeNeeded
+  -- TWO LIBRARIES MERGED (02, T-11).
+  -- M1: two sound libraries without a common name and within the limits give a sound one; the image of an accepted merge passes the check and fits the space, so that all
+  -- of the above holds of it as of any other. Its words are those of both but for three, and its limits are those of the summed counts.
+  pub merge-sound : MergeSound
+  pub merged-passes : MergedPasses
+  pub merge-length : MergeLength
+  pub merge-limits : MergeLimits
+  -- M2: what is yanked is what was; the merged image, word for word: of the second's cards the numbers in history bytes are raised, and nothing else changes.
+  pub yanked-first : YankedFirst
+  pub yanked-second : YankedSecond
+  pub image-merged : MergedImage
+  -- M3: where both compile, the merged file is the first's followed by the second's with the calls of both, unless 43 or 44 is met.
+  pub view-merged : ViewMerged
+  pub file-merged : FileMerged
+  pub file-in-full : FileInFull
+  -- M4: the fresh library on either side gives the other one back.
+  pub merge-fresh : MergeFresh
+  pub merging-fresh : MergingFresh
+  -- M5: a set that only yanks sets of one of the two does in the merged library what it does in that one, and nothing to the other's cards or lines.
+  pub yank-first : YankFirst
+  pub yank-second : YankSecond
+  pub file-first : FileFirst
+  pub file-second : FileSecond
+  -- M1 to M5 are met by small merges, and without any one of their hypotheses the answer can be another.
+  pub merges-hold : MergesHold
+  pub merge-spare : MergeSpare
+  pub numbers-spare : NumbersSpare
+  pub file-spare : FileSpare
+  pub yank-met : YankMet
+  pub yank-spare : YankSpare

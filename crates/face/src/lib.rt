@@ -6,6 +6,7 @@ ghost use Rattle.fresh.specs.Fresh.{freshing, freshInto, begunNumber, begunValu
 ghost use Rattle.keeper.specs.Keeper.{listing};
 ghost use Rattle.library.specs.Check.{check, checked, checkedNumber, checkedPlace};
 ghost use Rattle.corrections.specs.Run.{running, ran, runInto, ranNumber, ranValue};
+ghost use Rattle.merge.specs.Merge.{merging, merged, mergeInto, mergedNumber, mergedValue, mergedWhich};
 ghost use Rattle.compile.specs.Compile.{compiling, compiled, compileInto, compiledNumber, compiledFirst, compiledSecond};
 ghost use Rattle.packing.specs.Pack.{packingEights, unpackingEights, packEightsInto, unpackEightsInto, packingNumber, packingValue};
 
@@ -78,6 +79,26 @@ pub extern "C" fn galdwist_compile(
     *first = compile::compiled_first(answer);
     *second = compile::compiled_second(answer);
     compile::compiled_number(answer)
+}
+
+// The first library followed by the second, into the space: its words, or the place of the fault; and which library is at fault.
+#[no_mangle]
+pub extern "C" fn galdwist_merge(
+    first: &[u64],
+    second: &[u64],
+    space: &mut [u64],
+    value: &mut u64,
+    which: &mut u64,
+) -> u64
+    ensures number { λ r. ⌜ r ≡ mergedNumber (merged (merging (now (first .entry)) (now (second .entry)) (length (now (space .entry))))) ⌝ }
+    ensures space { λ _. ⌜ now (space .exit) ≡ mergeInto (merging (now (first .entry)) (now (second .entry)) (length (now (space .entry)))) (now (space .entry)) ⌝ }
+    ensures value { λ _. ⌜ now (value .exit) ≡ mergedValue (merged (merging (now (first .entry)) (now (second .entry)) (length (now (space .entry))))) ⌝ }
+    ensures which { λ _. ⌜ now (which .exit) ≡ mergedWhich (merged (merging (now (first .entry)) (now (second .entry)) (length (now (space .entry))))) ⌝ }
+{
+    let answer = merge::merge(first, second, space);
+    *value = merge::merged_value(answer);
+    *which = merge::merged_which(answer);
+    merge::merged_number(answer)
 }
 
 // The fresh library: the words written, or 0 where it is longer than the space.

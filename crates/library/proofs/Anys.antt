@@ -4,7 +4,7 @@ use native.Mathlib.Omega.{arith}
 use mathlib.Core.Path.{_≡_, refl, sym, ap, ap₂, _∙_, subst}
 use mathlib.Core.Bool.{Bool, true, false, _&&_, _||_}
 use mathlib.Core.List.{List, [], _∷_, map}
-use lib.Dec.{T, eqb, eqb→eq}
+use lib.Dec.{T, eqb, eqb→eq, eqb-refl}
 use Rattle.words.specs.Base.{any, all, member}
 use Rattle.library.specs.Each.{Each}
 use Rattle.library.proofs.Each.{and-parts}
@@ -24,6 +24,12 @@ and-true false = refl
 pub and-false : (a : Bool) → (a && false) ≡ false
 and-false true = refl
 and-false false = refl
+
+pub bool-iff : (a b : Bool) → (T a → T b) → (T b → T a) → a ≡ b
+bool-iff true true f g = refl
+bool-iff true false f g = absurd (f tt)
+bool-iff false true f g = absurd (g tt)
+bool-iff false false f g = refl
 
 pub or-either : {A : Type 0} (a b : Bool) → (T a → A) → (T b → A) → T (a || b) → A
 or-either true b f g t = f tt
@@ -55,3 +61,19 @@ any-map q g (x ∷ xs) = ap (λ (b : Bool). q (g x) || b) (any-map q g xs)
 
 pub no-true : {A : Type 0} → false ≡ true → A
 no-true e = absurd (let z : _≡_ {A = ℕ} 0 1 = cc in omega arith)
+
+pub each-member : (P : ℕ → Type 0) (xs : List ℕ) (w : ℕ) → T (member w xs) → Each P xs → P w
+each-member P [] w t h = absurd t
+each-member P (x ∷ xs) w t h = or-either (eqb w x) (member w xs) (λ u. subst P (sym (eqb→eq w x u)) (h .0)) (λ u. each-member P xs w u (h .1)) t
+
+pub members-each : (P : ℕ → Type 0) (xs : List ℕ) → ((x : ℕ) → T (member x xs) → P x) → Each P xs
+members-each P [] f = tt
+members-each P (x ∷ xs) f = (f x (here (eqb x x) (eqb-refl x)), members-each P xs (λ y t. f y (there (eqb y x) y t)))
+  where
+    here : (c : Bool) → T c → T (c || member x xs)
+    here true t = tt
+    here false t = absurd t
+
+    there : (c : Bool) (y : ℕ) → T (member y xs) → T (c || member y xs)
+    there true y t = tt
+    there false y t = t

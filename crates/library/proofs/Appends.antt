@@ -9,6 +9,10 @@ pub each-append : {A : Type 0} (P : A → Type 0) (xs ys : List A) → Each P xs
 each-append P [] ys p q = q
 each-append P (x ∷ xs) ys p q = (p .0, each-append P xs ys (p .1) q)
 
+pub each-parts : {A : Type 0} (P : A → Type 0) (xs ys : List A) → Each P (xs ++ ys) → Each P xs × Each P ys
+each-parts P [] ys h = (tt, h)
+each-parts P (x ∷ xs) ys h = let q = each-parts P xs ys (h .1) in ((h .0, q .0), q .1)
+
 pub or-assoc : (a b c : Bool) → ((a || b) || c) ≡ (a || (b || c))
 or-assoc true b c = refl
 or-assoc false b c = refl

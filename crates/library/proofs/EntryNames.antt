@@ -8,6 +8,7 @@ use borrow.Author.Tests.{eq-eqb, ne-eqb}
 use lib.Dec.{T, eqb, eqb→eq, eqb-refl, ltb→lt, leb→le, T-not}
 use lib.ListN.{length, getD}
 use Rattle.words.specs.Base.{if_then_else_, any, member}
+use Rattle.words.specs.Names.{isName, nameOf, isNameWord}
 use Rattle.words.proofs.Tests.{and-both}
 use Rattle.library.specs.Library.{purged, nameAt, entryFrom, entryOf}
 use Rattle.library.specs.Sound.{noTwo, numberTests, isNamed, sameName}
@@ -89,3 +90,11 @@ module _ (directory : List ℕ) (once : T (noTwo sameName directory)) (n : ℕ) 
       let a : 0 < n = q .above in
       let b : n ≤ length directory = q .within in
       any-at (eqb (nameAt directory n)) directory (n - 1) (omega arith) (eqb-refl (nameAt directory n))
+
+-- a purged entry is no name
+purged-no-name : T (isNameWord purged) → ⊥
+unfolding isNameWord isName nameOf
+purged-no-name u = u
+
+pub not-purged : (w : ℕ) → T (isNameWord w) → w ≡ purged → ⊥
+not-purged w t e = purged-no-name (subst (λ (x : ℕ). T (isNameWord x)) e t)

@@ -31,3 +31,8 @@ pub mod Inserted
 pub mod Directories
 pub mod GrownStream
 pub mod Searching
+pub mod Sizes
+pub mod ImageParts
+pub mod Streams
+pub mod Beyond
+pub mod YankNames

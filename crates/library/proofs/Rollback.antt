@@ -75,7 +75,7 @@ own-says f n e c h =
     let same : history c ≡ record { number = n; activating = true } ∷ [] = λ i. record { number = h .0 i; activating = true } ∷ h .1 i in
     ap (lastSays f false) same ∙ ap (λ (b : Bool). if b then false else true) e
 
-rule-own : (f : ℕ → Bool) (top : ℕ) → f top ≡ false → (directory : List ℕ) (deck n : ℕ) (cs : List Card) → Each (OwnCard top) cs
+pub rule-own : (f : ℕ → Bool) (top : ℕ) → f top ≡ false → (directory : List ℕ) (deck n : ℕ) (cs : List Card) → Each (OwnCard top) cs
     → yankedBy (map (yankOf directory) cs) f deck n ≡ any (covers deck n) (allActs directory cs)
 rule-own f top e directory deck n [] h = refl
 rule-own f top e directory deck n (c ∷ cs) h =

@@ -43,6 +43,15 @@ none-place p n (x ∷ xs) h = go (p x) (h .0) (none-place p (suc n) xs (h .1))
     go true t e = absurd t
     go false t e = e
 
+pub place-none : (p : ℕ → Bool) (n : ℕ) (xs : List ℕ) → placeFrom p n xs ≡ none → Each (λ x. T (not (p x))) xs
+place-none p n [] e = tt
+place-none p n (x ∷ xs) e = go (p x) e (place-none p (suc n) xs)
+  where
+    go : (c : Bool) → (if c then some n else placeFrom p (suc n) xs) ≡ none → (placeFrom p (suc n) xs ≡ none → Each (λ y. T (not (p y))) xs)
+        → T (not c) × Each (λ y. T (not (p y))) xs
+    go true u f = absurd (some-none n u)
+    go false u f = (tt, f u)
+
 -- a test at each word, with those ahead of it
 abbrev allAfter : (List ℕ → ℕ → Bool) → List ℕ → List ℕ → Bool
 allAfter ok ahead [] = true

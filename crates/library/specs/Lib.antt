@@ -9,3 +9,5 @@ pub mod Exact
 pub mod Growth
 pub mod Alike
 pub mod Asked
+pub mod Counts
+pub mod Readable

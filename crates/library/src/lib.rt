@@ -4,10 +4,12 @@ ghost use Rattle.library.specs.Check.{faultNumber, checkedNumber, checke
 
 mod asks;
 mod fixed;
+mod limits;
 
 pub use asks::asks_yank;
 pub use fixed::header_word;
 pub use fixed::reserved_word;
+pub use limits::within_limits;
 
 // Why an image is no library: 01's rows 1 to 10.
 pub enum Fault {

@@ -50,7 +50,7 @@ module _ (image space : List ℕ) where
       by (halted k o q) s f = tt
 
       go : (c : Checking) → check image ≡ c → Sized (fromChecked (length space) c)
-      go (good l) e = by (compileView (length space) (view l)) (decksOf true (view l) (view l) 0 0 space) (decks-follows space true (view l) (view-plain image l e))
+      go (good l) e = by (compileView (length space) (view l)) (decksOf true (view l) (view l) 0 0 space) (decks-follows space true (view l) (view-plain image l e) (view l) (view-plain image l e))
       go (bad f p) e = tt
 
   -- x is the space after it

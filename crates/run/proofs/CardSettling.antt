@@ -13,8 +13,8 @@ use Rattle.library.specs.Each.{Each}
 use Rattle.library.specs.Library.{Byte, Card}
 use Rattle.library.specs.Yanks.{lastSays, active}
 use Rattle.library.specs.Image.{bit, byteBits, furtherWords, cardWords, cardsWords}
-use Rattle.settling.specs.SettledBits.{fixByte, sayByte, ownBits, ownSays, withActive, furtherSays, furtherLen, cardBits, cardLen, cardsBits, settledWords}
-use Rattle.settling.proofs.Cards.{one-bits, many-bits, one-len, many-len, no-cards}
+use Rattle.settling.specs.SettledBits.{fixByte, sayByte, ownBits, ownSays, withActive, furtherSays, furtherLen, cardBits, cardLen, cardsBy, settledWords}
+use Rattle.settling.proofs.Cards.{one-bits, many-bits, one-len, many-len, no-cards, none-bits}
 use Rattle.run.specs.CardHeads.{ownByte, textOf, headWord, headsOf, headsLen, Fits}
 use Rattle.run.proofs.Heads.{bits-below, byte-back, count-back}
 use Rattle.run.proofs.Fixing.{fix-is, say-is}
@@ -134,9 +134,9 @@ module _ (new yk : ℕ → Bool) where
 
   -- CARDS, as many as there are at most
   settled-upto : new 0 ≡ false → (n : ℕ) (cs : List Card) → Each Fits cs → length (cardsWords yk cs) ≤ n
-      → cardsBits new n (cardsWords yk cs) ≡ cardsWords new cs
-  unfolding cardsBits
-  settled-upto zero-out n [] f h = no-cards new n
+      → cardsBy (cardBits new) n (cardsWords yk cs) ≡ cardsWords new cs
+  unfolding cardsBy
+  settled-upto zero-out n [] f h = no-cards (cardBits new) (none-bits new) n
   settled-upto zero-out zero (c ∷ cs) f h =
       let n1 : length (cardWords yk c ++ cardsWords yk cs) ≡ length (cardWords yk c) + length (cardsWords yk cs) =
       length-append (cardWords yk c) (cardsWords yk cs) in
@@ -151,7 +151,7 @@ module _ (new yk : ℕ → Bool) where
       let s = settled-card zero-out c (f .0) (cardsWords yk cs) in
       let under = (λ i. take (s .long i) (s .words i)) ∙ take-at (cardWords new c) (cardsWords yk cs) (length (cardWords new c)) refl in
       let over = (λ i. drop (s .long i) (s .words i)) ∙ drop-at (cardWords new c) (cardsWords yk cs) (length (cardWords new c)) refl in
-      (λ i. under i ++ cardsBits new n (over i)) ∙ ap (λ (l : List ℕ). cardWords new c ++ l) (settled-upto zero-out n cs (f .1) (omega arith))
+      (λ i. under i ++ cardsBy (cardBits new) n (over i)) ∙ ap (λ (l : List ℕ). cardWords new c ++ l) (settled-upto zero-out n cs (f .1) (omega arith))
 
   pub settled-cards : new 0 ≡ false → (cs : List Card) → Each Fits cs → settledWords new (cardsWords yk cs) ≡ cardsWords new cs
   settled-cards zero-out cs f = settled-upto zero-out (length (cardsWords yk cs)) cs f (omega arith)

@@ -19,6 +19,8 @@ use Rattle.library.specs.Image.{cardsWords, shortHistory}
 use Rattle.library.specs.Sound.{Sound}
 use Rattle.library.proofs.Appends.{any-append, map-append}
 use Rattle.library.proofs.Directories.{deck-names-append, name-end}
+use Rattle.library.proofs.Sizes.{words, words-under, within-small, cards-append}
+use Rattle.library.proofs.Anys.{bool-iff}
 use Rattle.corrections.specs.Step.{inDeck, State, Step, refused, refuse, limited, isKnown, newDeck, withDecks, withEntry, afterDeck, putDeck, obey, step}
 use Rattle.corrections.specs.Safe.{Safe}
 use Rattle.corrections.specs.Flat.{ahead, HasPlace, flatPlace, deckNumbers}
@@ -34,10 +36,9 @@ use Rattle.run.specs.declared.desk.Desk.{Desk}
 use Rattle.run.specs.declared.desk.TextAt.the-variants.{Gap as TextGap}
 use Rattle.run.specs.declared.desk.Stepped.the-variants.{Refused as SteppedOff}
 use Rattle.corrections.specs.declared.Why.the-variants.{Known}
-use Rattle.corrections.proofs.FlatFind.{bool-iff, eqb-yes, eqb-no}
-use Rattle.corrections.proofs.FlatStream.{cards-append, deck-flat}
+use Rattle.corrections.proofs.FlatFind.{eqb-yes, eqb-no}
+use Rattle.corrections.proofs.FlatStream.{deck-flat}
 use Rattle.corrections.proofs.FlatFlags.{flags-entry, above-free}
-use Rattle.corrections.proofs.FlatLimits.{words, words-under, within-small}
 use Rattle.run.proofs.Stepping.{work-words, Counted, limited-answer}
 use Rattle.run.proofs.Starting.{known-is}
 

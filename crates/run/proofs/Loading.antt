@@ -1,4 +1,4 @@
--- An image that the check accepted is the image of the library that was read, so its parts are that library's tables and cards.
+-- An image that the check accepted, copied to the arrays of a run: its cards, their count, and the numbers of its decks.
 use Prim.Native.Nat.{ℕ, suc, _+_, _-_, _/_, _%_, _^_, _≤_, _<_}
 use native.Mathlib.Omega.{arith}
 use native.Mathlib.Nat.{zero-add}
@@ -12,96 +12,32 @@ use Rattle.words.specs.Base.{if_then_else_, member, all}
 use Rattle.library.specs.Each.{Each}
 use Rattle.library.specs.Library.{Byte, Card, Deck, Library, deckCards, joined, stream, nameAt, entryOf, deckNames}
 use Rattle.library.specs.Yanks.{yanked}
-use Rattle.library.specs.Image.{cardsWords, counts, tables}
+use Rattle.library.specs.Image.{cardsWords}
 use Rattle.library.specs.Check.{good, check}
 use Rattle.library.specs.Sound.{noTwo, sameName, isNamed, SoundDeck, Sound}
-use Rattle.library.proofs.CheckEncode.{check-encode}
-use Rattle.library.proofs.CheckSound.{check-sound}
 use Rattle.library.proofs.Each.{and-parts}
 use Rattle.library.proofs.EntryNames.{entry-name}
 use Rattle.store.specs.Stored.{over}
 use Rattle.store.proofs.Storing.{over-all}
 use Rattle.run.specs.CardHeads.{Fits}
 use Rattle.run.specs.CardSeek.{indexOf}
+use Rattle.library.proofs.Sizes.{words}
+use Rattle.library.proofs.ImageParts.{image-long, cards-are}
 use Rattle.corrections.specs.Flat.{indexBy, deckNumbers, isDeckCard}
 use Rattle.settling.specs.SettledBits.{flagged}
-use Rattle.run.specs.Loaded.{titledCard, Readable}
+use Rattle.run.specs.Loaded.{titledCard}
 use Rattle.corrections.proofs.FlatFind.{eqb-yes, eqb-no}
-use Rattle.corrections.proofs.FlatStream.{encode-flat}
+use Rattle.corrections.proofs.FlatStream.{cards-flat}
 use Rattle.corrections.proofs.FlatDecks.{deck-spot-card}
-use Rattle.corrections.proofs.FlatLimits.{words, encode-length, Small, within-small}
 
--- THE PARTS OF AN IMAGE
+-- THE CARDS OF AN IMAGE, under the flags of YANK$$$
 module _ (old : List ℕ) (l : Library) (ok : check old ≡ good l) where
-  abbrev n : ℕ
-  n = length (l .directory)
-
-  abbrev k : ℕ
-  k = suc (length (l .decks))
-
-  abbrev cards : List ℕ
-  cards = cardsWords (yanked l 0) (stream l)
-
-  pub loaded-sound : Sound l
-  loaded-sound = check-sound old l ok
-
-  pub loaded-small : Small l
-  loaded-small = within-small l (loaded-sound .limits)
-
-  flat : old ≡ tables l ++ cards
-  flat = sym (check-encode old l ok) ∙ encode-flat l
-
-  second : getD old 1 0 ≡ counts l
-  second = ap (λ (x : List ℕ). getD x 1 0) flat
-
-  pub entries-are : getD old 1 0 / 2 ^ 18 ≡ length (l .directory)
-  entries-are = let s = loaded-small in omega (arith, second, s .entries, s .decks)
-
-  pub decks-are : getD old 1 0 % 2 ^ 18 ≡ suc (length (l .decks))
-  decks-are = let s = loaded-small in omega (arith, second, s .entries, s .decks)
-
-  pub image-long : length old ≡ 3 + length (l .directory) + length (l .decks) + length (cardsWords (yanked l 0) (stream l))
+  pub loaded-long : length old ≡ 3 + length (l .directory) + length (l .decks) + length (cardsWords (yanked l 0) (stream l))
   unfolding words
-  image-long = ap length (sym (check-encode old l ok)) ∙ encode-length l
+  loaded-long = image-long old l ok
 
-  pub readable : Readable old
-  unfolding words
-  readable =
-      let s = loaded-small in
-      record {
-        lib = l;
-        accepted = ok;
-        long = omega (arith, image-long, s .total);
-        entries = omega (arith, entries-are, s .entries);
-        some = omega (arith, decks-are);
-        decks = omega (arith, decks-are, s .decks);
-        tables = omega (arith, entries-are, decks-are, image-long);
-      }
-
-  names-long : length (deckNames l) ≡ suc (length (l .decks))
-  unfolding deckNames
-  names-long = ap suc (length-map (l .decks) (λ d. nameAt (l .directory) (d .number)))
-
-  behind-head : drop 2 old ≡ l .directory ++ (deckNames l ++ cards)
-  behind-head = ap (drop 2) flat ∙ append-assoc (l .directory) (deckNames l) cards
-
-  behind-directory : drop (2 + n) old ≡ deckNames l ++ cards
-  behind-directory = sym (drop-drop n 2 old) ∙ ap (drop n) behind-head ∙ drop-append-seam (l .directory) (deckNames l ++ cards)
-
-  behind-names : drop (2 + n + k) old ≡ cards
-  behind-names =
-      sym (drop-drop k (2 + n) old) ∙ ap (drop k) behind-directory
-      ∙ ap (λ (i : ℕ). drop i (deckNames l ++ cards)) (sym names-long) ∙ drop-append-seam (deckNames l) cards
-
-  pub directory-is : take n (drop 2 old) ≡ l .directory
-  directory-is = ap (take n) behind-head ∙ take-append-seam (l .directory) (deckNames l ++ cards)
-
-  pub names-are : take k (drop (2 + n) old) ≡ deckNames l
-  names-are =
-      ap (take k) behind-directory ∙ ap (λ (i : ℕ). take i (deckNames l ++ cards)) (sym names-long) ∙ take-append-seam (deckNames l) cards
-
-  pub cards-are : drop (2 + n + k) old ≡ cardsWords (yanked l 0) (stream l)
-  cards-are = behind-names
+  pub loaded-cards : drop (2 + length (l .directory) + suc (length (l .decks))) old ≡ cardsWords (yanked l 0) (stream l)
+  loaded-cards = cards-are old l ok ∙ cards-flat l
 
 -- COPIED to an array's start
 pub copied-part : (xs ys : List ℕ) (a k : ℕ) → a + k ≤ length xs → k ≤ length ys → over (take (a + k - a) (drop a xs)) ys ≡ take k (drop a xs) ++ drop k ys

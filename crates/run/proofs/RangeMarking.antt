@@ -14,6 +14,7 @@ use Rattle.lines.specs.declared.CardName.{CardName}
 use Rattle.library.specs.Library.{Card, Deck, Library, deckCards, joined, parts, stream}
 use Rattle.library.specs.Yanks.{yanked}
 use Rattle.library.specs.Image.{cardsWords, shortHistory, withinLimits}
+use Rattle.library.proofs.Sizes.{words-under, within-small, cards-append}
 use Rattle.corrections.specs.Step.{inYanks, inDeck, State, Step, went, refused, refuse, limited, isSet, unitNumber, Spot, isNamed, isYankPart, isDeckSpot, isBarred, placeAfter, overRange, afterMark, step}
 use Rattle.corrections.specs.Safe.{Safe}
 use Rattle.corrections.specs.Flat.{indexBy, ahead, Stood, flat, deckNumbers, isDeckCard}
@@ -40,9 +41,9 @@ use Rattle.run.proofs.RangeCards.{range-stream, marks-count}
 use Rattle.run.proofs.OverLimits.{within-limit}
 use Rattle.corrections.proofs.FlatFind.{yank-part-flat, ltb-yes, ltb-no}
 use Rattle.corrections.proofs.FlatDecks.{barred-flat}
-use Rattle.corrections.proofs.FlatStream.{marks, mark-flat, cards-append}
+use Rattle.corrections.proofs.FlatStream.{marks, mark-flat}
 use Rattle.corrections.proofs.FlatFlags.{unit-free}
-use Rattle.corrections.proofs.FlatLimits.{words-under, within-small, range-cards, range-short}
+use Rattle.corrections.proofs.FlatLimits.{range-cards, range-short}
 use Rattle.run.proofs.Stepping.{work-words, Counted, limited-answer}
 use Rattle.run.proofs.Texting.{begun-pos}
 use Rattle.run.proofs.MarkedParts.{mark-tables, mark-yanks, mark-same-yanks, mark-same-flags, mark-place, mark-same-decks, unbarred, index-order, spot-below}

@@ -15,11 +15,12 @@ use Rattle.library.specs.Growth.{count}
 use Rattle.library.specs.Image.{cardsWords}
 use Rattle.library.specs.Sound.{Sound}
 use Rattle.library.proofs.Each.{each-map}
-use Rattle.library.proofs.Anys.{any-false}
+use Rattle.library.proofs.Anys.{any-false, bool-iff}
 use Rattle.library.proofs.Acts.{sound-lower}
 use Rattle.library.proofs.Flags.{yankList, flags, yanked-rule}
 use Rattle.yanked.specs.Flags.{settledFlags}
 use Rattle.yanked.proofs.Yanking.{settled-yanked}
+use Rattle.library.proofs.Sizes.{cards-size, cards-append}
 use Rattle.corrections.specs.Step.{State}
 use Rattle.settling.specs.SettledBits.{flagged}
 use Rattle.run.specs.Work.{Work, Resettles}
@@ -27,9 +28,7 @@ use Rattle.run.specs.Desk.{Sane, Held, HeldUnder}
 use Rattle.run.specs.Resettled.{Resettled}
 use Rattle.run.specs.declared.gap.Gap.{Gap}
 use Rattle.run.specs.declared.desk.Desk.{Desk}
-use Rattle.corrections.proofs.FlatFind.{bool-iff, eqb-yes}
-use Rattle.corrections.proofs.FlatStream.{cards-append}
-use Rattle.corrections.proofs.FlatLimits.{cards-size}
+use Rattle.corrections.proofs.FlatFind.{eqb-yes}
 use Rattle.run.proofs.YankPutting.{deckCardsOf, stream-is}
 
 -- NO NUMBER IS 0

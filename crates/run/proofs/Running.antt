@@ -18,6 +18,7 @@ use Rattle.run.specs.Desk.{Sane}
 use Rattle.run.specs.Resettled.{Resettled, Arrays}
 use Rattle.run.specs.Streamed.{inArrays, EndedIn, ObeysStream}
 use Rattle.run.specs.Written.{afterLines, Answers, Finishes, Begins, RunsFrom, RunsLines, RunsStream}
+use Rattle.library.proofs.ImageParts.{accepted-is, rejected-is}
 use Rattle.run.specs.Loaded.{Loads}
 use Rattle.run.specs.declared.desk.Desk.{Desk}
 use Rattle.run.specs.declared.streams.Ended.the-variants.{Ended as EndedOn, Stopped as EndedOff}
@@ -82,36 +83,14 @@ stream-within old bytes space new r le h l ok =
 
 -- THE CHECK ahead of all
 module _ (old : List ℕ) where
-  sound-not : (f : Fault) (p : ℕ) → CheckedRefused f p ≡ CheckedSound → ⊥
-  sound-not f p e = let z : _≡_ {A = ℕ} 0 1 = cc in omega arith
-
-  pub accepted-is : checked (check old) ≡ CheckedSound → (l : Library) × (check old ≡ good l)
-  accepted-is e = go (check old) refl e
-    where
-      go : (x : Checking) → check old ≡ x → checked x ≡ CheckedSound → (l : Library) × (check old ≡ good l)
-      go (good l) q h = (l, q)
-      go (bad f p) q h = absurd (sound-not f p h)
-
-  not-sound : (f : Fault) (p : ℕ) → CheckedSound ≡ CheckedRefused f p → ⊥
-  not-sound f p e = let z : _≡_ {A = ℕ} 0 1 = cc in omega arith
-
-  same-fault : (f g : Fault) (p q : ℕ) → CheckedRefused f p ≡ CheckedRefused g q → f ≡ g
-  same-fault f g p q e = cc
-
-  same-place : (f g : Fault) (p q : ℕ) → CheckedRefused f p ≡ CheckedRefused g q → p ≡ q
-  same-place f g p q e = cc
-
   module _ (bytes space : List ℕ) where
     pub run-refused : (f : Fault) (p : ℕ) → checked (check old) ≡ CheckedRefused f p → Answers (running old bytes (length space)) space space (OfLibrary f p)
     unfolding running
-    run-refused f p e = go (check old) e
-      where
-        go : (x : Checking) → checked x ≡ CheckedRefused f p → Answers (fromChecked x bytes (length space)) space space (OfLibrary f p)
-        go (good l) h = absurd (not-sound f p h)
-        go (bad g q) h = record { answer = ap₂ (λ (v : Fault) (i : ℕ). OfLibrary v i) (sym (same-fault g f q p h)) (sym (same-place g f q p h)); written = refl }
+    run-refused f p e =
+        subst (λ (x : Checking). Answers (fromChecked x bytes (length space)) space space (OfLibrary f p)) (sym (rejected-is old f p e)) (record { answer = refl; written = refl })
 
     pub run-accepted : (new : List ℕ) (r : Ran) → checked (check old) ≡ CheckedSound → RunsStream old bytes space new r → Answers (running old bytes (length space)) space new r
     unfolding running
     run-accepted new r e h =
-        let g = accepted-is e in
+        let g = accepted-is old e in
         subst (λ (x : Checking). Answers (fromChecked x bytes (length space)) space new r) (sym (g .1)) (h (g .0) (g .1))

@@ -16,6 +16,7 @@ use Rattle.library.specs.Yanks.{yanked}
 use Rattle.library.specs.Image.{cardsWords, shortHistory}
 use Rattle.library.specs.Sound.{Sound}
 use Rattle.library.proofs.Directories.{deck-names-append}
+use Rattle.library.proofs.Sizes.{words, words-under, within-small}
 use Rattle.corrections.specs.Step.{State, Step, went, refused, refuse, limited, isKnown, withDecks, withEntry, afterIdent, putIdent, obey, step}
 use Rattle.corrections.specs.Safe.{Safe}
 use Rattle.corrections.specs.Flat.{deckNumbers}
@@ -33,7 +34,6 @@ use Rattle.corrections.specs.declared.Why.the-variants.{Known}
 use Rattle.corrections.proofs.FlatFind.{eqb-yes, eqb-no}
 use Rattle.corrections.proofs.FlatStream.{entry-flat}
 use Rattle.corrections.proofs.FlatFlags.{flags-entry}
-use Rattle.corrections.proofs.FlatLimits.{words, words-under, within-small}
 use Rattle.run.proofs.Stepping.{work-words, Counted, limited-answer, fitted-sane}
 
 -- THE DIRECTORY LOOKED THROUGH, from place i on

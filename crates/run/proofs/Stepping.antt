@@ -20,10 +20,13 @@ use Rattle.library.specs.Yanks.{yanked}
 use Rattle.library.specs.Image.{cardsWords, shortHistory, withinLimits}
 use Rattle.library.specs.Sound.{Sound}
 use Rattle.library.proofs.Each.{allOf-each, each-allOf}
+use Rattle.library.proofs.Sizes.{words, words-under, Small, within-small, small-within, not-small, cards-append}
+use Rattle.library.proofs.Anys.{bool-iff}
 use Rattle.corrections.specs.Step.{TextPlace, nowhere, inYanks, inDeck, State, Step, went, refused, limited, newCard, putIn, changeAt, afterText, putText, obey, step, unitNumber, withDecks}
 use Rattle.corrections.specs.Safe.{Begun, Open, Safe}
 use Rattle.corrections.specs.Flat.{HasPlace, flatPlace, deckNumbers}
-use Rattle.corrections.specs.Counts.{countTests, withinCounts, numberAfter}
+use Rattle.library.specs.Counts.{countTests, withinCounts}
+use Rattle.corrections.specs.Numbering.{numberAfter}
 use Rattle.run.specs.GapWords.{Parted, Ordered}
 use Rattle.run.specs.CardHeads.{Fits, cardOf}
 use Rattle.run.specs.Work.{Work, PutCard}
@@ -38,10 +41,9 @@ use Rattle.corrections.specs.declared.Why.{Why}
 use Rattle.corrections.specs.declared.Why.the-variants.{Limit, Nowhere, Barred}
 use Rattle.corrections.proofs.Went.{Went}
 use Rattle.corrections.proofs.StepSound.{step-safe}
-use Rattle.corrections.proofs.FlatFind.{bool-iff}
-use Rattle.corrections.proofs.FlatStream.{cards-append, text-flat}
+use Rattle.corrections.proofs.FlatStream.{text-flat}
 use Rattle.corrections.proofs.FlatFlags.{flags-decks, unit-free}
-use Rattle.corrections.proofs.FlatLimits.{words, words-under, Small, within-small, small-within, not-small, put-cards, put-short}
+use Rattle.corrections.proofs.FlatLimits.{put-cards, put-short}
 
 -- 31 BY COUNTS
 pub record Fitting (d : Desk) : Type 0 where

@@ -13,19 +13,21 @@ use Rattle.library.specs.Yanks.{yanked}
 use Rattle.library.specs.Image.{cardsWords}
 use Rattle.library.specs.Check.{good, check}
 use Rattle.library.specs.Sound.{Sound}
+use Rattle.library.proofs.Sizes.{Small}
 use Rattle.corrections.specs.Step.{start}
 use Rattle.run.specs.CardHeads.{Fits}
 use Rattle.run.specs.CardSeek.{CardRun, Finds}
 use Rattle.corrections.specs.Flat.{indexBy, deckNumbers}
 use Rattle.settling.specs.SettledBits.{flagged}
 use Rattle.run.specs.Desk.{Sane, Tables, HeldUnder}
-use Rattle.run.specs.Loaded.{titledCard, FindsTitle, FlagsDecks, Readable, Loads}
+use Rattle.run.specs.Loaded.{titledCard, FindsTitle, FlagsDecks, Loads}
 use Rattle.run.specs.declared.desk.Desk.{Desk}
 use Rattle.run.specs.declared.desk.TextAt.the-variants.{Nowhere as TextNowhere}
 use Rattle.run.specs.declared.seek.Place.{Place}
-use Rattle.corrections.proofs.FlatLimits.{Small}
 use Rattle.run.proofs.Handing.{stream-fits}
-use Rattle.run.proofs.Loading.{loaded-sound, loaded-small, entries-are, decks-are, image-long, directory-is, names-are, cards-are, none-of-zero, listed-numbers, titles-end}
+use Rattle.library.specs.Readable.{Readable}
+use Rattle.library.proofs.ImageParts.{read-sound, read-small, entries-are, decks-are, directory-is, names-are}
+use Rattle.run.proofs.Loading.{loaded-long, loaded-cards, none-of-zero, listed-numbers, titles-end}
 
 module _ (old : List ℕ) where
   abbrev N : ℕ
@@ -63,17 +65,17 @@ module _ (old : List ℕ) where
       cards = cardsWords (yanked l 0) (stream l)
 
       sound : Sound l
-      sound = loaded-sound old l ok
+      sound = read-sound old l ok
 
       fits : Each Fits (stream l)
       fits = stream-fits l sound
 
       low-is : low ≡ length cards
-      low-is = omega (arith, image-long old l ok, entries-are old l ok, decks-are old l ok)
+      low-is = omega (arith, loaded-long old l ok, entries-are old l ok, decks-are old l ok)
 
       w-is : w ≡ cards ++ drop low w₀
       w-is =
-          ew ∙ ap (λ (x : List ℕ). x ++ drop low w₀) (ap₂ (λ (i j : ℕ). drop (2 + i + j) old) (entries-are old l ok) (decks-are old l ok) ∙ cards-are old l ok)
+          ew ∙ ap (λ (x : List ℕ). x ++ drop low w₀) (ap₂ (λ (i j : ℕ). drop (2 + i + j) old) (entries-are old l ok) (decks-are old l ok) ∙ loaded-cards old l ok)
 
       run-of : CardRun w 0 low yk (stream l) (drop low w₀)
       run-of = record { words = w-is; end = omega (arith, low-is); fit = fits }
@@ -81,13 +83,13 @@ module _ (old : List ℕ) where
       dir-is : take N dir ≡ l .directory
       dir-is =
           ap (take N) ed
-          ∙ take-at (take N (drop 2 old)) (drop N dir₀) N (length-take-le N (drop 2 old) (omega (arith, length-drop 2 old, image-long old l ok, entries-are old l ok)))
+          ∙ take-at (take N (drop 2 old)) (drop N dir₀) N (length-take-le N (drop 2 old) (omega (arith, length-drop 2 old, loaded-long old l ok, entries-are old l ok)))
           ∙ ap (λ (i : ℕ). take i (drop 2 old)) (entries-are old l ok) ∙ directory-is old l ok
 
       names-is : take K names ≡ deckNames l
       names-is =
           ap (take K) en
-          ∙ take-at (take K (drop (2 + N) old)) (drop K names₀) K (length-take-le K (drop (2 + N) old) (omega (arith, length-drop (2 + N) old, image-long old l ok, entries-are old l ok, decks-are old l ok)))
+          ∙ take-at (take K (drop (2 + N) old)) (drop K names₀) K (length-take-le K (drop (2 + N) old) (omega (arith, length-drop (2 + N) old, loaded-long old l ok, entries-are old l ok, decks-are old l ok)))
           ∙ ap₂ (λ (i j : ℕ). take j (drop (2 + i) old)) (entries-are old l ok) (decks-are old l ok) ∙ names-are old l ok
 
       marked : (m : ℕ) → flagged decks m ≡ member m (deckNumbers l)
@@ -160,7 +162,7 @@ module _ (old : List ℕ) where
 
     pub load-sane : (r : Readable old) → Sane w (loadDesk t c)
     load-sane r =
-        let s : Small (r .lib) = loaded-small old (r .lib) (r .accepted) in
+        let s : Small (r .lib) = read-small old (r .lib) (r .accepted) in
         let e : c .index ≡ length (stream (r .lib)) = counted (r .lib) (r .accepted) in
         record {
           ordered = (omega (arith, r .long), omega (arith, room));

@@ -23,6 +23,7 @@ use Rattle.library.specs.Yanks.{yanked}
 use Rattle.library.specs.Image.{cardsWords, shortHistory}
 use Rattle.library.specs.Sound.{isNamed, Sound}
 use Rattle.library.proofs.EntryNames.{is-named}
+use Rattle.library.proofs.Sizes.{words, words-under, within-small}
 use Rattle.corrections.specs.Step.{TextPlace, nowhere, inYanks, inDeck, State, Step, went, refused, limited, newCard, putIn, changeAt, afterText, putText, obey, step, unitNumber, withDecks}
 use Rattle.corrections.specs.Safe.{Begun, Open, Safe}
 use Rattle.corrections.specs.Flat.{ahead, HasPlace, flatPlace, deckNumbers}
@@ -42,7 +43,7 @@ use Rattle.corrections.proofs.SameDecks.{length-change}
 use Rattle.corrections.proofs.Parts.{numbers-change}
 use Rattle.corrections.proofs.FlatStream.{text-flat}
 use Rattle.corrections.proofs.FlatFlags.{flags-decks, unit-free}
-use Rattle.corrections.proofs.FlatLimits.{words, words-under, within-small, put-cards, put-short}
+use Rattle.corrections.proofs.FlatLimits.{put-cards, put-short}
 use Rattle.run.proofs.Stepping.{work-words, Counted, limited-answer}
 
 -- A LINE'S WORDS
@@ -196,7 +197,7 @@ module _ (w : List ℕ) (d : Desk) (line v : List ℕ) (h : Gap) (room : length 
     fits = λ le. total ∙ work-words v h yk (held .below ++ (c ∷ [])) (held .above) (putted .work le) (le, omega (arith, high, same, room)) ∙ ap (λ (n : ℕ). h .lo + (n - h .hi)) same;
     crowded = λ lt.
         let x = putted .crowded lt in
-        let e : length (cardsWords yk ((held .below ++ (c ∷ [])) ++ held .above)) ≡ length (cardsWords yk (held .below ++ (c ∷ [])) ++ cardsWords yk (held .above)) = ap length (Rattle.corrections.proofs.FlatStream.cards-append yk (held .below ++ (c ∷ [])) (held .above)) in
+        let e : length (cardsWords yk ((held .below ++ (c ∷ [])) ++ held .above)) ≡ length (cardsWords yk (held .below ++ (c ∷ [])) ++ cardsWords yk (held .above)) = ap length (Rattle.library.proofs.Sizes.cards-append yk (held .below ++ (c ∷ [])) (held .above)) in
         omega (arith, x, total, room, length-append (cardsWords yk (held .below ++ (c ∷ []))) (cardsWords yk (held .above)));
   }
 

@@ -15,6 +15,7 @@ use Rattle.library.specs.Yanks.{yanked}
 use Rattle.library.specs.Image.{cardsWords, header, counts, encode}
 use Rattle.store.specs.Stored.{libraryWords, hasRoom, libraryInto}
 use Rattle.store.proofs.Storing.{library-long, room-is, into-is, into-kept}
+use Rattle.library.proofs.Sizes.{cards-append}
 use Rattle.corrections.specs.Step.{State}
 use Rattle.corrections.specs.Run.{ended, updated, notUpdated, fromUpdated, ran, runInto}
 use Rattle.run.specs.Desk.{Sane, Held}
@@ -22,7 +23,7 @@ use Rattle.run.specs.Written.{afterLines, Finishes}
 use Rattle.run.specs.declared.desk.Desk.{Desk}
 use Rattle.corrections.specs.declared.Ran.the-variants.{Done, Refused}
 use Rattle.corrections.specs.declared.Why.the-variants.{Space}
-use Rattle.corrections.proofs.FlatStream.{cards-append, encode-flat}
+use Rattle.corrections.proofs.FlatStream.{encode-flat}
 
 module _ (w dir names : List ℕ) (d : Desk) (sane : Sane w d) (long : length dir ≡ 1024) (listed : 255 < length names) where
   abbrev n : ℕ

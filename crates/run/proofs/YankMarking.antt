@@ -9,6 +9,7 @@ use lib.Seq.{take-append-seam, length-take-le}
 use Rattle.words.specs.Base.{if_then_else_, allOf}
 use Rattle.library.specs.Library.{Card, deckCards, joined, stream}
 use Rattle.library.specs.Image.{cardsWords}
+use Rattle.library.proofs.Sizes.{words, words-under, Small, within-small}
 use Rattle.corrections.specs.Step.{TextPlace, State, limited, step}
 use Rattle.corrections.specs.Safe.{Safe}
 use Rattle.run.specs.GapWords.{Ordered}
@@ -24,7 +25,6 @@ use Rattle.run.specs.declared.desk.Stepped.the-variants.{Went as Stepped
 use Rattle.corrections.specs.declared.Why.{Why}
 use Rattle.corrections.specs.declared.Why.the-variants.{Limit}
 use Rattle.run.proofs.Locating.{lo-is}
-use Rattle.corrections.proofs.FlatLimits.{words, words-under, Small, within-small}
 use Rattle.run.proofs.Stepping.{Fitting, fitted-yes, fitted-sane, work-words, Counted, limited-answer}
 
 -- the state after it

@@ -16,6 +16,7 @@ use Rattle.lines.proofs.Asked.{Readable, line-readable}
 use Rattle.library.specs.Library.{Card, Library, deckCards, joined, stream, deckNames}
 use Rattle.library.specs.Yanks.{yanked}
 use Rattle.library.specs.Image.{cardsWords, shortHistory}
+use Rattle.library.proofs.Sizes.{words, words-under, Small, within-small, cards-append}
 use Rattle.corrections.specs.Step.{State, limited, newCard, withYanks, afterYank, step}
 use Rattle.corrections.specs.Safe.{Begun, Safe}
 use Rattle.run.specs.CardHeads.{cardOf}
@@ -29,9 +30,9 @@ use Rattle.run.specs.declared.desk.TextAt.the-variants.{Nowhere as TextN
 use Rattle.run.specs.declared.desk.Stepped.{Stepped}
 use Rattle.run.specs.declared.desk.Stepped.the-variants.{Went as SteppedOn, Refused as SteppedOff}
 use Rattle.corrections.specs.declared.Why.the-variants.{Limit}
-use Rattle.corrections.proofs.FlatStream.{cards-append, yank-flat}
+use Rattle.corrections.proofs.FlatStream.{yank-flat}
 use Rattle.corrections.proofs.FlatFlags.{unit-free}
-use Rattle.corrections.proofs.FlatLimits.{words, words-under, Small, within-small, put-short}
+use Rattle.corrections.proofs.FlatLimits.{put-short}
 use Rattle.run.proofs.Stepping.{work-words, fitted-yes, Counted, limited-answer}
 use Rattle.run.proofs.Texting.{begun-pos}
 

@@ -16,7 +16,7 @@ use Rattle.library.specs.Yanks.{yanked}
 use Rattle.library.specs.Image.{cardsWords}
 use Rattle.corrections.specs.Step.{TextPlace, nowhere, inYanks, inDeck, State, isSet, Step, went, refused}
 use Rattle.corrections.specs.Safe.{Safe}
-use Rattle.corrections.specs.Counts.{withinCounts}
+use Rattle.library.specs.Counts.{withinCounts}
 use Rattle.corrections.specs.Flat.{HasPlace, flatPlace, deckNumbers}
 use Rattle.run.specs.GapWords.{Ordered}
 use Rattle.settling.specs.SettledBits.{flagged}

@@ -1,12 +1,12 @@
 -- A library that the check accepted, taken up into the arrays of a run.
 --   flags             NoFlags, listedNumbers, FlagsDecks
 --   the first deck    titledCard, Titled, FindsTitle
---   the library       Readable, Loads
-use Prim.Native.Nat.{ℕ, _+_, _/_, _%_, _^_, _≤_}
+--   the library       Loads
+use Prim.Native.Nat.{ℕ}
 use mathlib.Core.Path.{_≡_}
 use mathlib.Core.Bool.{Bool, false}
 use mathlib.Core.List.{List, map}
-use lib.ListN.{length, take, drop, getD}
+use lib.ListN.{length, take, drop}
 use Rattle.words.specs.Base.{member}
 use Rattle.library.specs.Library.{Card, Library, entryOf}
 use Rattle.library.specs.Yanks.{yanked}
@@ -42,15 +42,6 @@ pub record Titled (decks : List ℕ) (yk : ℕ → Bool) (cs : List Card) (r : P
 abbrev pub FindsTitle : List ℕ → ℕ → List ℕ → Place → Type 0
 FindsTitle w to decks r = (yk : ℕ → Bool) (cs : List Card) (rest : List ℕ) → CardRun w 0 to yk cs rest → Titled decks yk cs r
 
--- THE LIBRARY: an image that the check accepted, and what its counts say
-pub record Readable (old : List ℕ) : Type 0 where
-  pub lib : Library
-  pub accepted : check old ≡ good lib
-  pub long : length old ≤ 65536
-  pub entries : getD old 1 0 / 2 ^ 18 ≤ 1023
-  pub some : 1 ≤ getD old 1 0 % 2 ^ 18
-  pub decks : getD old 1 0 % 2 ^ 18 ≤ 255
-  pub tables : 2 + getD old 1 0 / 2 ^ 18 + getD old 1 0 % 2 ^ 18 ≤ length old
-
+-- THE LIBRARY
 abbrev pub Loads : List ℕ → List ℕ → List ℕ → List ℕ → List ℕ → Desk → Type 0
 Loads old w dir names decks d = (l : Library) → check old ≡ good l → HeldUnder (yanked l 0) w dir names decks d (start l)

@@ -69,7 +69,7 @@ pub(crate) fn limited(d: Desk) -> Stepped
         return Stepped::Refused(Why::Limit);
     }
     let words = AHEAD + d.entries + d.decks + g.lo + (ROOM - g.hi);
-    if corrections::within_limits(d.entries, d.decks + 1, d.cards, words) {
+    if library::within_limits(d.entries, d.decks + 1, d.cards, words) {
         return Stepped::Went(d);
     }
     Stepped::Refused(Why::Limit)

@@ -1,7 +1,7 @@
 // A run on a library that the check accepted (01, "Numbers of the answers": 19, the lines in order, 32 last).
 ghost use Prim.Native.Nat.{_≤_};
 ghost use lib.ListN.{length};
-ghost use Rattle.run.specs.Loaded.{Readable};
+ghost use Rattle.library.specs.Readable.{Readable};
 ghost use Rattle.run.specs.Written.{RunsLines, RunsStream};
 use crate::carry::finish;
 use crate::load::load;

@@ -8,7 +8,7 @@ use mathlib.Core.List.{List, [], _∷_, _++_, append-assoc, append-nil}
 use lib.ListN.{length, take, drop, getD, set, drop-of-length-le}
 use lib.Seq.{drop-cons, set-split, set-at, take-suc, take-all, length-take-le, take-append-add, drop-append-add}
 use borrow.Author.Tests.{le-leb, lt-leb}
-use Rattle.settling.specs.SettledBits.{ownBits, ownSays, withActive, furtherBits, furtherSays, furtherLen, cardBits, cardLen, cardsBits, settledWords}
+use Rattle.settling.specs.SettledBits.{ownBits, ownSays, withActive, furtherBits, furtherSays, furtherLen, cardBits, cardLen, cardsBy}
 
 -- a card with one history word, and one with more
 module _ (yk : ℕ → Bool) (x : ℕ) (xs : List ℕ) where
@@ -74,42 +74,47 @@ module _ (yk : ℕ → Bool) (w : List ℕ) (at : ℕ) (low : at < length w) whe
         let m : n + x / 2 ^ 36 % 2 ^ 18 ≡ at + cardLen (x ∷ rest) = omega arith in
         m ∙ ap (λ (l : List ℕ). at + cardLen l) (sym cut)
 
--- CARD AFTER CARD: those from `at` on, at most n, are left
-pub no-cards : (yk : ℕ → Bool) (n : ℕ) → cardsBits yk n [] ≡ []
-unfolding cardsBits cardBits cardLen
-no-cards yk zero = refl
-no-cards yk (suc n) = no-cards yk n
-
-pub record Ahead (yk : ℕ → Bool) (w v : List ℕ) (at : ℕ) : Type 0 where
+-- CARD AFTER CARD, each by f: those from `at` on, at most `left`, are still to do
+pub record Ahead (f : List ℕ → List ℕ) (w v : List ℕ) (at : ℕ) : Type 0 where
   pub left : ℕ
   pub enough : length v ≤ at + left
-  pub same : take at v ++ cardsBits yk left (drop at v) ≡ settledWords yk w
+  pub same : take at v ++ cardsBy f left (drop at v) ≡ cardsBy f (length w) w
 
-module _ (yk : ℕ → Bool) (w : List ℕ) where
-  pub ahead-start : Ahead yk w w 0
-  ahead-start = record { left = length w; enough = omega arith; same = refl }
+module _ (f : List ℕ → List ℕ) where
+  pub no-cards : f [] ≡ [] → (k : ℕ) → cardsBy f k [] ≡ []
+  unfolding cardsBy cardLen
+  no-cards none zero = refl
+  no-cards none (suc k) = ap (cardsBy f k) none ∙ no-cards none k
 
-  pub ahead-more : (v : List ℕ) (at : ℕ) → Ahead yk w v at → at < length v → (u : List ℕ) (r : ℕ) → length u ≡ length v → at < r
-      → u ≡ take at v ++ cardBits yk (drop at v) → r ≡ at + cardLen (drop at v) → Ahead yk w u r
-  unfolding cardsBits
-  ahead-more v at g low u r len on is next = go (g .left) (g .enough) (g .same)
-    where
-      go : (n : ℕ) → length v ≤ at + n → take at v ++ cardsBits yk n (drop at v) ≡ settledWords yk w → Ahead yk w u r
-      go zero enough same = absurd (omega arith)
-      go (suc n) enough same =
-          let c : List ℕ = cardBits yk (drop at v) in
-          let k : ℕ = cardLen (drop at v) in
-          let t : length (take at v) ≡ at = length-take-le at v (omega arith) in
-          let far : r ≡ length (take at v) + k = next ∙ ap (λ (m : ℕ). m + k) (sym t) in
-          let under : take r u ≡ take at v ++ take k c = (λ j. take (far j) (is j)) ∙ take-append-add (take at v) c k in
-          let over : drop r u ≡ drop k c = (λ j. drop (far j) (is j)) ∙ drop-append-add (take at v) c k in
-          record {
-            left = n;
-            enough = omega arith;
-            same = (λ j. under j ++ cardsBits yk n (over j)) ∙ append-assoc (take at v) (take k c) (cardsBits yk n (drop k c)) ∙ same;
-          }
+  module _ (w : List ℕ) where
+    pub ahead-start : Ahead f w w 0
+    ahead-start = record { left = length w; enough = omega arith; same = refl }
 
-  pub ahead-end : (v : List ℕ) (at : ℕ) → Ahead yk w v at → length v ≤ at → v ≡ settledWords yk w
-  ahead-end v at g h =
-      sym (take-all at v h) ∙ sym (append-nil (take at v)) ∙ ap (λ (l : List ℕ). take at v ++ l) (sym (no-cards yk (g .left)))
-      ∙ ap (λ (l : List ℕ). take at v ++ cardsBits yk (g .left) l) (sym (drop-of-length-le v h)) ∙ g .same
+    pub ahead-more : (v : List ℕ) (at : ℕ) → Ahead f w v at → at < length v → (u : List ℕ) (r : ℕ) → length u ≡ length v → at < r
+        → u ≡ take at v ++ f (drop at v) → r ≡ at + cardLen (drop at v) → Ahead f w u r
+    unfolding cardsBy
+    ahead-more v at g low u r len on is next = go (g .left) (g .enough) (g .same)
+      where
+        go : (k : ℕ) → length v ≤ at + k → take at v ++ cardsBy f k (drop at v) ≡ cardsBy f (length w) w → Ahead f w u r
+        go zero enough same = absurd (omega arith)
+        go (suc k) enough same =
+            let c : List ℕ = f (drop at v) in
+            let m : ℕ = cardLen (drop at v) in
+            let t : length (take at v) ≡ at = length-take-le at v (omega arith) in
+            let far : r ≡ length (take at v) + m = next ∙ ap (λ (j : ℕ). j + m) (sym t) in
+            let under : take r u ≡ take at v ++ take m c = (λ j. take (far j) (is j)) ∙ take-append-add (take at v) c m in
+            let over : drop r u ≡ drop m c = (λ j. drop (far j) (is j)) ∙ drop-append-add (take at v) c m in
+            record {
+              left = k;
+              enough = omega arith;
+              same = (λ j. under j ++ cardsBy f k (over j)) ∙ append-assoc (take at v) (take m c) (cardsBy f k (drop m c)) ∙ same;
+            }
+
+    pub ahead-end : f [] ≡ [] → (v : List ℕ) (at : ℕ) → Ahead f w v at → length v ≤ at → v ≡ cardsBy f (length w) w
+    ahead-end none v at g h =
+        sym (take-all at v h) ∙ sym (append-nil (take at v)) ∙ ap (λ (l : List ℕ). take at v ++ l) (sym (no-cards none (g .left)))
+        ∙ ap (λ (l : List ℕ). take at v ++ cardsBy f (g .left) l) (sym (drop-of-length-le v h)) ∙ g .same
+
+pub none-bits : (yk : ℕ → Bool) → cardBits yk [] ≡ []
+unfolding cardBits
+none-bits yk = refl

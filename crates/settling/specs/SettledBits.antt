@@ -3,7 +3,7 @@
 --   a byte, a word          fixByte, fixWord, sayByte, sayWord
 --   further history words   isLast, furtherBits, furtherSays, furtherLen
 --   a card                  ownBits, ownSays, withActive, cardBits, cardLen
---   cards                   cardsBits, settledWords
+--   cards                   cardsBy, settledWords
 use Prim.Native.Nat.{ℕ, zero, suc, _+_, _-_, _*_, _/_, _%_, _^_}
 use mathlib.Core.Bool.{Bool, not}
 use mathlib.Core.List.{List, [], _∷_, _++_}
@@ -67,11 +67,11 @@ unfoldable pub cardLen : List ℕ → ℕ
 cardLen [] = 0
 cardLen (x ∷ xs) = 1 + (if isLast x then 0 else (furtherLen xs)) + x / 2 ^ 36 % 2 ^ 18
 
--- CARDS: at most n, one after another
-unfoldable pub cardsBits : (ℕ → Bool) → ℕ → List ℕ → List ℕ
-cardsBits yk zero w = w
-cardsBits yk (suc n) w = let v : List ℕ = cardBits yk w in take (cardLen w) v ++ cardsBits yk n (drop (cardLen w) v)
+-- CARDS: at most k, one after another, each by f, which is given the words from the card on and keeps what follows it
+unfoldable pub cardsBy : (List ℕ → List ℕ) → ℕ → List ℕ → List ℕ
+cardsBy f zero w = w
+cardsBy f (suc k) w = let v : List ℕ = f w in take (cardLen w) v ++ cardsBy f k (drop (cardLen w) v)
 
 -- each has a word at least
 abbrev pub settledWords : (ℕ → Bool) → List ℕ → List ℕ
-settledWords yk w = cardsBits yk (length w) w
+settledWords yk w = cardsBy (cardBits yk) (length w) w

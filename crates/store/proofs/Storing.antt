@@ -40,7 +40,7 @@ head-two (a ∷ []) h x lt = absurd (omega arith)
 head-two (a ∷ (b ∷ e)) h x lt = refl
 
 -- words put after p, where p stands at the beginning
-after-words : (p e s : List ℕ) (at : ℕ) → length p ≡ at → put (p ++ drop at e) s at ≡ (p ++ s) ++ drop (at + length s) e
+pub after-words : (p e s : List ℕ) (at : ℕ) → length p ≡ at → put (p ++ drop at e) s at ≡ (p ++ s) ++ drop (at + length s) e
 after-words p e s at q =
     ap₂ (λ (x y : List ℕ). (x ++ s) ++ y) (take-at p (drop at e) at q)
     (ap (λ (i : ℕ). drop (i + length s) (p ++ drop at e)) (sym q) ∙ drop-append-add p (drop at e) (length s) ∙ drop-drop (length s) at e)

@@ -5,3 +5,4 @@ pub mod Finding
 pub mod Putting
 pub mod Stepping
 pub mod Decking
+pub mod Writes

@@ -2,3 +2,4 @@ pub mod View
 pub mod Walk
 pub mod TableView
 pub mod Steps
+pub mod Ends

@@ -143,36 +143,43 @@ fn walk(
     Walked::On(l, n)
 }
 
-// One row's deck, passed over where it is common.
+// The deck of a row of the chosen ones, passed over where it is common.
 fn walk_deck(
     image: &[u64],
     table: &[u64],
+    chosen: &[u64],
     row: usize,
     writes: bool,
     out: &mut [u8],
     lines: usize,
     calls: usize,
 ) -> Walked
-    requires { ⌜ row + 3 < length (now table) ⌝ }
-    ensures { λ r. ⌜ state r (now (out .exit)) ≡ deckOf writes (tableView (now (image .entry)) (now (table .entry))) (rowView (now (image .entry)) (now (table .entry)) row) lines calls (now (out .entry)) ⌝ }
+    requires { ⌜ row + 3 < length (now chosen) ⌝ }
+    ensures { λ r. ⌜ state r (now (out .exit)) ≡ deckOf writes (tableView (now (image .entry)) (now (table .entry))) (rowView (now (image .entry)) (now (chosen .entry)) row) lines calls (now (out .entry)) ⌝ }
 {
-    if table[row + KIND] == COMMON {
+    if chosen[row + KIND] == COMMON {
         return Walked::On(lines, calls);
     }
-    let from = table[row + FROM] as usize;
-    let to = table[row + TO] as usize;
+    let from = chosen[row + FROM] as usize;
+    let to = chosen[row + TO] as usize;
     walk(image, table, from, to, DEPTH, writes, out, lines, calls)
 }
 
-// "Every active card of every normal deck, in order": written, or only counted.
-pub fn walk_decks(image: &[u64], table: &[u64], writes: bool, out: &mut [u8]) -> Walked
-    ensures { λ r. ⌜ state r (now (out .exit)) ≡ decksOf writes (tableView (now (image .entry)) (now (table .entry))) (tableView (now (image .entry)) (now (table .entry))) 0 0 (now (out .entry)) ⌝ }
+// "Every active card of every normal deck, in order", of the chosen decks: written, or only counted. Calls find their decks in the whole table.
+pub fn walk_decks(
+    image: &[u64],
+    table: &[u64],
+    chosen: &[u64],
+    writes: bool,
+    out: &mut [u8],
+) -> Walked
+    ensures { λ r. ⌜ state r (now (out .exit)) ≡ decksOf writes (tableView (now (image .entry)) (now (table .entry))) (tableView (now (image .entry)) (now (chosen .entry))) 0 0 (now (out .entry)) ⌝ }
 {
     let mut l = 0;
     let mut n = 0;
     let mut row = 0;
-    while row + KIND < table.len() {
-        match walk_deck(image, table, row, writes, out, l, n) {
+    while row + KIND < chosen.len() {
+        match walk_deck(image, table, chosen, row, writes, out, l, n) {
             Walked::On(l2, n2) => {
                 l = l2;
                 n = n2;

@@ -69,7 +69,8 @@ impl Draft {
         &self.run.library
     }
 
-    fn start_set(&mut self, random: &mut Random) {
+    /// Adds a line that starts a set of a new name.
+    pub fn start_set(&mut self, random: &mut Random) {
         let name = new_name(random, self.library());
         let line = directive(random, IDENT, &[name]);
         self.line(&line);
@@ -227,7 +228,8 @@ fn yankable(library: &Library) -> Vec<Vec<u8>> {
     names.filter(|entry| entry.deck.is_none()).filter_map(|entry| entry.name).map(|name| name.bytes()).collect()
 }
 
-fn yank(random: &mut Random, library: &Library) -> Option<Vec<u8>> {
+/// A YANK that the open set may give, where there is a set to yank.
+pub fn yank(random: &mut Random, library: &Library) -> Option<Vec<u8>> {
     let mut names = yankable(library);
     if names.is_empty() {
         return None;

@@ -1,6 +1,7 @@
-//! Cases of the kind `limits`: each limit of 01 exactly, and one past it.
+//! Cases of the kind `limits`: each limit of 01 exactly, and one past it. Those of merges stand in `merge_limits`.
 
 use super::libraries::made_by;
+use super::merge_limits;
 use super::texts::blanks;
 use crate::cases::{Case, COMPRESS, EXPAND, PACK, UNPACK};
 use crate::compile::{DEPTH, LINE_BYTES, MAX_CALLS};
@@ -14,7 +15,7 @@ use crate::words::{pack, packed_length, to_bytes, WORD_END};
 const LINES: usize = 2_000;
 const BYTES: usize = LINES * LINE_BYTES;
 
-type Maker = Box<dyn Fn() -> Case>;
+pub type Maker = Box<dyn Fn() -> Case>;
 
 /// The limit case at an index, going round.
 pub fn case(index: usize) -> Case {
@@ -28,10 +29,11 @@ pub fn count() -> usize {
 }
 
 fn makers() -> Vec<Maker> {
-    [words(), texts(), images(), streams(), runs(), growths(), compiles()].into_iter().flatten().collect()
+    let parts = [words(), texts(), images(), streams(), runs(), growths(), compiles(), merge_limits::makers()];
+    parts.into_iter().flatten().collect()
 }
 
-fn each<T: Copy + 'static, const N: usize>(items: [T; N], make: fn(T) -> Case) -> Vec<Maker> {
+pub fn each<T: Copy + 'static, const N: usize>(items: [T; N], make: fn(T) -> Case) -> Vec<Maker> {
     items.into_iter().map(|item| Box::new(move || make(item)) as Maker).collect()
 }
 
@@ -116,7 +118,7 @@ fn base() -> Library {
 }
 
 /// Deck P with one card more, changed.
-fn with_card(change: impl Fn(&mut Library, usize)) -> Library {
+pub fn with_card(change: impl Fn(&mut Library, usize)) -> Library {
     let mut library = base();
     let card = library.add_card(1, 2, b"P2", 1, 1);
     change(&mut library, card);
@@ -172,14 +174,14 @@ fn with_decks(decks: usize) -> Library {
 }
 
 /// P.2 with that many bytes, the last of them not activating where the count is even.
-fn with_bytes(bytes: usize) -> Library {
+pub fn with_bytes(bytes: usize) -> Library {
     with_card(|library, card| {
         let history = (1..bytes).map(|index| Byte { number: 2, activating: index % 2 == 0 });
         library.cards[card].history.extend(history);
     })
 }
 
-fn numbered(letter: char, number: usize) -> Name {
+pub fn numbered(letter: char, number: usize) -> Name {
     Name::of_bytes(format!("{}{}", letter, number).as_bytes()).expect("a name")
 }
 

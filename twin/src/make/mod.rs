@@ -3,8 +3,11 @@
 mod drafts;
 mod faults;
 mod forms;
+mod growth;
 mod libraries;
 mod limits;
+mod merge_limits;
+mod merges;
 mod packing;
 mod random;
 mod spoil;
@@ -20,6 +23,7 @@ use drafts::Draft;
 pub use faults::write_cases as write_faults;
 pub use libraries::{any as any_library, made_by, EXAMPLE};
 pub use limits::count as limit_cases;
+pub use merges::{pair as two_libraries, streams as two_streams};
 pub use random::Random;
 
 /// What cases are wanted.
@@ -32,6 +36,7 @@ pub enum Sort {
     Check,
     Run,
     Compile,
+    Merge,
     Limits,
 }
 
@@ -44,6 +49,7 @@ impl Sort {
             "check" => Some(Sort::Check),
             "run" => Some(Sort::Run),
             "compile" => Some(Sort::Compile),
+            "merge" => Some(Sort::Merge),
             "limits" => Some(Sort::Limits),
             _ => None,
         }
@@ -68,15 +74,17 @@ pub fn case(random: &mut Random, index: usize, sort: Sort) -> Case {
         Sort::Check => check_case(random, index),
         Sort::Run => run_case(random),
         Sort::Compile => compile_case(random),
+        Sort::Merge => merges::case(random, index),
         Sort::Limits => limits::case(index),
         Sort::Mix => {
             let sort = match random.below(100) {
-                0..=13 => Sort::Words,
-                14..=17 => Sort::Forms,
-                18..=33 => Sort::Lines,
-                34..=51 => Sort::Check,
-                52..=81 => Sort::Run,
-                _ => Sort::Compile,
+                0..=12 => Sort::Words,
+                13..=16 => Sort::Forms,
+                17..=31 => Sort::Lines,
+                32..=48 => Sort::Check,
+                49..=76 => Sort::Run,
+                77..=91 => Sort::Compile,
+                _ => Sort::Merge,
             };
             let index = random.below(1 << 20);
             case(random, index, sort)

@@ -1,6 +1,6 @@
 -- The largest number stays, and up to there one more fits.
 use borrow.Author.Tests.{lt-ltb, le-ltb}
-use Rattle.corrections.specs.Counts.{numberAfter}
+use Rattle.corrections.specs.Numbering.{numberAfter}
 use borrow.Author.Needs.{needs}
 use Rattle.corrections.proofs.number_after.Statement.{statement}
 use Rattle.corrections.proofs.number_after.Tie as tie

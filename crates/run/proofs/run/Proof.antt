@@ -1,7 +1,7 @@
 -- The library is checked ahead of 19; what is accepted is run.
 use mathlib.Core.Path.{sym, _∙_}
-use Rattle.run.proofs.Loading.{readable}
-use Rattle.run.proofs.Running.{accepted-is, run-refused, run-accepted}
+use Rattle.library.proofs.ImageParts.{accepted-is, readable}
+use Rattle.run.proofs.Running.{run-refused, run-accepted}
 use borrow.Author.Needs.{needs}
 use Rattle.run.proofs.run.Statement.{statement}
 use Rattle.run.proofs.run.Tie as tie

@@ -15,7 +15,7 @@ shared-slice-read-if1 : tie.Need-shared-slice-read-if1
 shared-slice-read-if1 c = search needs
 
 returns : tie.Need-returns
-returns c = let a = c .before .before .before .before .before .args in deck-common (a .writes) (tableView (a .image .now) (a .table .now)) (a .image .now) (a .table .now) (a .row) (a .lines) (a .calls) (a .out .now) (c .if1 .taken)
+returns c = let a = c .before .before .before .before .before .before .args in deck-common (a .writes) (tableView (a .image .now) (a .table .now)) (a .image .now) (a .chosen .now) (a .row) (a .lines) (a .calls) (a .out .now) (c .if1 .taken)
 
 add-from : tie.Need-add-from
 add-from c = search needs
@@ -42,7 +42,7 @@ same-length : tie.Need-same-length
 same-length c = search needs
 
 returns-2 : tie.Need-returns-2
-returns-2 c = let a = c .before .before .before .before .before .before .before .before .before .before .before .args in deck-normal (a .writes) (tableView (a .image .now) (a .table .now)) (a .image .now) (a .table .now) (a .row) (a .lines) (a .calls) (a .out .now) (c .before .before .before .before .before .before .if1 .left) _ (c .before .before .walk .ensures)
+returns-2 c = let a = c .before .before .before .before .before .before .before .before .before .before .before .before .args in deck-normal (a .writes) (tableView (a .image .now) (a .table .now)) (a .image .now) (a .chosen .now) (a .row) (a .lines) (a .calls) (a .out .now) (c .before .before .before .before .before .before .if1 .left) _ (c .before .before .walk .ensures)
 
 pub walk-deck-spec : {M : Type 1} → statement M
 walk-deck-spec =

@@ -3,10 +3,10 @@ use native.Mathlib.Omega.{arith}
 use mathlib.Core.Path.{sym}
 use lib.Dec.{leb}
 use borrow.Author.Tests.{lt-leb, le-leb}
 use Rattle.library.proofs.Anys.{and-true}
-use Rattle.corrections.specs.Counts.{withinCounts}
-use Rattle.corrections.proofs.within_limits.Statement.{statement}
-use Rattle.corrections.proofs.within_limits.Tie as tie
+use Rattle.library.specs.Counts.{withinCounts}
+use Rattle.library.proofs.limits.within_limits.Statement.{statement}
+use Rattle.library.proofs.limits.within_limits.Tie as tie
 
 returns : tie.Need-returns
 unfolding withinCounts

@@ -1,0 +1,40 @@
+-- The merges hold, M5 is met, and each case without a hypothesis is so, by computation.
+use Rattle.words.specs.Display.{codeOf, letter}
+use Rattle.words.specs.Names.{isName, nameWord, nameOf, isNameWord, isNumber, numeral, leftJustified, rightJustified}
+use Rattle.words.specs.Text.{blanks, wordsOf, textWords, says, isText}
+use Rattle.lines.specs.Directive.{lineOf, afterLine, lines, kindOf, nameOfLine, kindOfLine, field, isClean, isCard, cardOf, asked, directive, yankNames, callOf}
+use Rattle.library.specs.Library.{stream, entryOf, deckNames, deckLine}
+use Rattle.library.specs.Yanks.{active, targets, yanksOf, settledYanks, yanked}
+use Rattle.library.specs.Image.{cardWords, encode, withinLimits}
+use Rattle.library.specs.Check.{check}
+use Rattle.corrections.specs.Step.{find, step}
+use Rattle.corrections.specs.Run.{update, running}
+use Rattle.walks.specs.View.{view}
+use Rattle.walks.specs.Walk.{printed, lookUp}
+use Rattle.compile.specs.Compile.{compiling}
+use Rattle.merge.specs.Merge.{merging}
+use Rattle.demands.specs.MergeShown.{MergesHold, MergeSpare, NumbersSpare, FileSpare, YankMet, YankSpare}
+
+pub merges-hold : MergesHold
+unfolding codeOf letter isName nameWord nameOf isNameWord isNumber numeral leftJustified rightJustified blanks wordsOf textWords says isText lineOf afterLine lines kindOf nameOfLine kindOfLine field isClean isCard cardOf asked directive yankNames callOf check cardWords encode withinLimits stream entryOf deckNames deckLine active targets yanksOf settledYanks yanked update running find step compiling view printed lookUp merging MergesHold
+merges-hold = tt
+
+pub merge-spare : MergeSpare
+unfolding codeOf letter isName nameWord nameOf isNameWord isNumber numeral leftJustified rightJustified blanks wordsOf textWords says isText lineOf afterLine lines kindOf nameOfLine kindOfLine field isClean isCard cardOf asked directive yankNames callOf check cardWords encode withinLimits stream entryOf deckNames deckLine active targets yanksOf settledYanks yanked update running find step compiling view printed lookUp merging MergeSpare
+merge-spare = tt
+
+pub numbers-spare : NumbersSpare
+unfolding codeOf letter isName nameWord nameOf isNameWord isNumber numeral leftJustified rightJustified blanks wordsOf textWords says isText lineOf afterLine lines kindOf nameOfLine kindOfLine field isClean isCard cardOf asked directive yankNames callOf check cardWords encode withinLimits stream entryOf deckNames deckLine active targets yanksOf settledYanks yanked update running find step compiling view printed lookUp merging NumbersSpare
+numbers-spare = tt
+
+pub file-spare : FileSpare
+unfolding codeOf letter isName nameWord nameOf isNameWord isNumber numeral leftJustified rightJustified blanks wordsOf textWords says isText lineOf afterLine lines kindOf nameOfLine kindOfLine field isClean isCard cardOf asked directive yankNames callOf check cardWords encode withinLimits stream entryOf deckNames deckLine active targets yanksOf settledYanks yanked update running find step compiling view printed lookUp merging FileSpare
+file-spare = tt
+
+pub yank-met : YankMet
+unfolding codeOf letter isName nameWord nameOf isNameWord isNumber numeral leftJustified rightJustified blanks wordsOf textWords says isText lineOf afterLine lines kindOf nameOfLine kindOfLine field isClean isCard cardOf asked directive yankNames callOf check cardWords encode withinLimits stream entryOf deckNames deckLine active targets yanksOf settledYanks yanked update running find step compiling view printed lookUp merging YankMet
+yank-met = tt
+
+pub yank-spare : YankSpare
+unfolding codeOf letter isName nameWord nameOf isNameWord isNumber numeral leftJustified rightJustified blanks wordsOf textWords says isText lineOf afterLine lines kindOf nameOfLine kindOfLine field isClean isCard cardOf asked directive yankNames callOf check cardWords encode withinLimits stream entryOf deckNames deckLine active targets yanksOf settledYanks yanked update running find step compiling view printed lookUp merging YankSpare
+yank-spare = tt

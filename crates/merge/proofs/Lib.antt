@@ -1,0 +1,14 @@
+pub mod Apart
+pub mod Raised
+pub mod Streams
+pub mod Soundness
+pub mod Limits
+pub mod Answers
+pub mod MergedFlags
+pub mod MergedImage
+pub mod Encoded
+pub mod Counting
+pub mod Putting
+pub mod Laying
+pub mod Sharing
+pub mod Answering

@@ -1,0 +1,46 @@
+// A name that both directories have (37).
+ghost use mathlib.Core.Path.{_≡_};
+ghost use Rattle.words.specs.Base.{placeFrom};
+ghost use Rattle.entries.specs.Names.{Knows};
+ghost use Rattle.tables.specs.Found.{found};
+ghost use Rattle.merge.specs.Merge.{isShared};
+ghost use Rattle.merge.specs.Words.{sharedEntry};
+use entries::ALL_WAYS;
+use library::Found;
+use tables::DIRECTORY;
+use tables::PURGED;
+
+// The number of an entry's name in the first directory, by a tree of its names; 0 where it has none, and for a purged entry, which is no name.
+fn shared_entry(first: &[u64], ways: &[u16; ALL_WAYS], w: u64) -> usize
+    requires { ⌜ Knows (now first) (now ways) ⌝ }
+    ensures { λ r. ⌜ r ≡ sharedEntry (now (first .entry)) w ⌝ }
+{
+    if w == PURGED {
+        return 0;
+    }
+    entries::entry_by(first, ways, w)
+}
+
+// Where the second has the first such name: its word, counted from 0.
+fn shared_by(first: &[u64], ways: &[u16; ALL_WAYS], second: &[u64]) -> Found
+    requires { ⌜ Knows (now first) (now ways) ⌝ }
+    ensures { λ r. ⌜ r ≡ found (placeFrom (isShared (now (first .entry))) 2 (now (second .entry))) ⌝ }
+{
+    let mut i: usize = 0;
+    while i < second.len() {
+        let n = shared_entry(first, ways, second[i]);
+        if n != 0 {
+            return Found::At(DIRECTORY + i);
+        }
+        i += 1;
+    }
+    Found::Nothing
+}
+
+pub(crate) fn shared_name(first: &[u64], second: &[u64]) -> Found
+    ensures { λ r. ⌜ r ≡ found (placeFrom (isShared (now (first .entry))) 2 (now (second .entry))) ⌝ }
+{
+    let mut ways = [0u16; ALL_WAYS];
+    entries::plant(first, &mut ways);
+    shared_by(first, &ways, second)
+}

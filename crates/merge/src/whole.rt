@@ -1,0 +1,64 @@
+// The merge of two images: their checks, a name that both have, the limits, the room; then the words.
+ghost use mathlib.Core.Path.{_≡_};
+ghost use lib.ListN.{length};
+ghost use Rattle.library.specs.Readable.{Readable};
+ghost use Rattle.merge.specs.Merge.{merging, merged, mergeInto};
+ghost use Rattle.merge.specs.Words.{Parted, MergesSound, MergesApart};
+use crate::Merged;
+use crate::counted::count_cards;
+use crate::names::shared_name;
+use crate::parts::Parts;
+use crate::parts::parts_of;
+use crate::put::TWICE;
+use crate::put::put_merged;
+use library::Checked;
+use library::Found;
+use tables::DIRECTORY;
+
+// Where no name is common.
+fn merge_apart(first: &[u64], a: Parts, second: &[u64], b: Parts, space: &mut [u64]) -> Merged
+    requires { ⌜ Parted (now first) a × Parted (now second) b ⌝ }
+    ensures { λ r. ⌜ MergesApart (now (first .entry)) (now (second .entry)) (now (space .entry)) (now (space .exit)) r ⌝ }
+{
+    let words = first.len() + second.len() - TWICE;
+    let entries = a.names + b.names - DIRECTORY - DIRECTORY;
+    let decks = (a.cards - a.names) + (b.cards - b.names) - 1;
+    let cards = count_cards(first, a.cards) + count_cards(second, b.cards);
+    if !library::within_limits(entries, decks, cards, words) {
+        return Merged::Limit;
+    }
+    if space.len() < words {
+        return Merged::Space;
+    }
+    put_merged(first, a, second, b, space);
+    Merged::Done(words)
+}
+
+// Two images that the check accepted.
+fn merge_sound(first: &[u64], second: &[u64], space: &mut [u64]) -> Merged
+    requires { ⌜ Readable (now first) × Readable (now second) ⌝ }
+    ensures { λ r. ⌜ MergesSound (now (first .entry)) (now (second .entry)) (now (space .entry)) (now (space .exit)) r ⌝ }
+{
+    let a = parts_of(first);
+    let b = parts_of(second);
+    let names = a.names;
+    let others = b.names;
+    match shared_name(&first[DIRECTORY..names], &second[DIRECTORY..others]) {
+        Found::At(p) => Merged::Shared(p),
+        Found::Nothing => merge_apart(first, a, second, b, space),
+    }
+}
+
+// The first library followed by the second, in the space; a refusal leaves the space as it was.
+pub fn merge(first: &[u64], second: &[u64], space: &mut [u64]) -> Merged
+    ensures answer { λ r. ⌜ r ≡ merged (merging (now (first .entry)) (now (second .entry)) (length (now (space .entry)))) ⌝ }
+    ensures space { λ _. ⌜ now (space .exit) ≡ mergeInto (merging (now (first .entry)) (now (second .entry)) (length (now (space .entry)))) (now (space .entry)) ⌝ }
+{
+    match checks::check(first) {
+        Checked::Refused(fault, place) => Merged::First(fault, place),
+        Checked::Sound => match checks::check(second) {
+            Checked::Refused(fault, place) => Merged::Second(fault, place),
+            Checked::Sound => merge_sound(first, second, space),
+        },
+    }
+}
