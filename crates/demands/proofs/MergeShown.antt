@@ -12,7 +12,10 @@ use Rattle.corrections.specs.Run.{update, running}
 use Rattle.walks.specs.View.{view}
 use Rattle.walks.specs.Walk.{printed, lookUp}
 use Rattle.compile.specs.Compile.{compiling}
-use Rattle.merge.specs.Merge.{merging}
+use Rattle.library.specs.Counts.{withinCounts}
+use Rattle.settling.specs.SettledBits.{furtherLen, cardLen, cardsBy}
+use Rattle.library_raise.specs.Raised.{byteRaised, wordRaised, furtherRaised, cardRaised}
+use Rattle.merge_meaning.specs.Merge.{merging}
 use Rattle.demands.specs.MergeShown.{MergesHold, MergeSpare, NumbersSpare, FileSpare, YankMet, YankSpare}
 
 pub merges-hold : MergesHold
@@ -20,11 +23,11 @@ unfolding codeOf letter isName nameWord nameOf isNameWord isNumber numeral leftJ
 merges-hold = tt
 
 pub merge-spare : MergeSpare
-unfolding codeOf letter isName nameWord nameOf isNameWord isNumber numeral leftJustified rightJustified blanks wordsOf textWords says isText lineOf afterLine lines kindOf nameOfLine kindOfLine field isClean isCard cardOf asked directive yankNames callOf check cardWords encode withinLimits stream entryOf deckNames deckLine active targets yanksOf settledYanks yanked update running find step compiling view printed lookUp merging MergeSpare
+unfolding codeOf letter isName nameWord nameOf isNameWord isNumber numeral leftJustified rightJustified blanks wordsOf textWords says isText lineOf afterLine lines kindOf nameOfLine kindOfLine field isClean isCard cardOf asked directive yankNames callOf check cardWords encode withinLimits stream entryOf deckNames deckLine active targets yanksOf settledYanks yanked update running find step compiling view printed lookUp merging withinCounts MergeSpare
 merge-spare = tt
 
 pub numbers-spare : NumbersSpare
-unfolding codeOf letter isName nameWord nameOf isNameWord isNumber numeral leftJustified rightJustified blanks wordsOf textWords says isText lineOf afterLine lines kindOf nameOfLine kindOfLine field isClean isCard cardOf asked directive yankNames callOf check cardWords encode withinLimits stream entryOf deckNames deckLine active targets yanksOf settledYanks yanked update running find step compiling view printed lookUp merging NumbersSpare
+unfolding codeOf letter isName nameWord nameOf isNameWord isNumber numeral leftJustified rightJustified blanks wordsOf textWords says isText lineOf afterLine lines kindOf nameOfLine kindOfLine field isClean isCard cardOf asked directive yankNames callOf check cardWords encode withinLimits stream entryOf deckNames deckLine active targets yanksOf settledYanks yanked update running find step compiling view printed lookUp merging furtherLen cardLen cardsBy byteRaised wordRaised furtherRaised cardRaised NumbersSpare
 numbers-spare = tt
 
 pub file-spare : FileSpare

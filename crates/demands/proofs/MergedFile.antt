@@ -15,14 +15,14 @@ use Rattle.library.specs.Yanks.{yanked}
 use Rattle.walks.specs.View.{Shown, DeckView, viewDecks, view, fullChoice}
 use Rattle.walks.specs.Walk.{common, lookIn, Walk, walked}
 use Rattle.compile.specs.Compile.{lineRoom, compileView, Compiling, ofWalk, ofLibrary, compiling}
-use Rattle.merge.specs.Merge.{merge}
-use Rattle.merge.specs.Merged.{Mergeable}
+use Rattle.merge_meaning.specs.Merge.{merge}
+use Rattle.merge_meaning.specs.Merged.{Mergeable}
 use Rattle.walks.specs.Ends.{Ends, inFull, tooMany, noSpace}
 use Rattle.demands.specs.MergedFile.{raiseView, FileMerged, FileInFull}
 use Rattle.library.proofs.Anys.{each-member}
-use Rattle.merge.proofs.Apart.{not-first}
-use Rattle.merge.proofs.Soundness.{namesIn, real-names, apart}
-use Rattle.merge.proofs.Answers.{MergedFrom, merged-from, mergeable, merged-passes}
+use Rattle.merge_meaning.proofs.Apart.{not-first}
+use Rattle.merge_meaning.proofs.Soundness.{namesIn, real-names, apart}
+use Rattle.merge_meaning.proofs.Answers.{MergedFrom, merged-from, mergeable, merged-passes}
 use Rattle.walks.proofs.Writes.{WritesDecks, walk-writes, writes-walk}
 use Rattle.demands.proofs.Answers.{compile-good}
 use Rattle.demands.proofs.MergedView.{view-merged}

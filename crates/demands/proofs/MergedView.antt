@@ -15,13 +15,13 @@ use Rattle.library.proofs.Acts.{card-numbers, deck-number}
 use Rattle.library.proofs.Directories.{name-append}
 use Rattle.walks.specs.View.{Shown, DeckView, shownCard, shown, viewDecks, view, fullChoice}
 use Rattle.library_raise.specs.RaisedCards.{raiseCard, raiseDeck}
-use Rattle.merge.specs.Merge.{merge}
-use Rattle.merge.specs.Merged.{Mergeable, raiseDeckNumber}
+use Rattle.merge_meaning.specs.Merge.{merge}
+use Rattle.merge_meaning.specs.Merged.{Mergeable, raiseDeckNumber}
 use Rattle.demands.specs.MergedFile.{raiseShown, raiseView, ViewMerged}
 use Rattle.library.proofs.Beyond.{name-beyond}
-use Rattle.merge.proofs.MergedFlags.{positive, counted, yanked-first, yanked-second}
+use Rattle.merge_meaning.proofs.MergedFlags.{positive, counted, yanked-first, yanked-raised}
 use Rattle.library_raise.proofs.RaisedCards.{active-raised}
-use Rattle.merge.proofs.MergedImage.{active-agree, raised-number}
+use Rattle.merge_meaning.proofs.MergedImage.{active-agree, raised-number}
 
 -- THE FIRST'S
 module _ (first second : List ℕ) where
@@ -84,7 +84,7 @@ view-merged l m g =
     view-append (yanked (merge l m)) (l .directory ++ m .directory) (l .decks) (map (raiseDeck k) (m .decks))
     ∙ ap₂ (λ (a b : List DeckView). a ++ b)
     (decks-first (l .directory) (m .directory) (yanked l) (yanked (merge l m)) (yanked-first l m g) (l .decks) (g .first .decks))
-    (decks-second (l .directory) (m .directory) (yanked m) (yanked (merge l m)) (yanked-second l m g) (m .decks) (g .second .decks))
+    (decks-second (l .directory) (m .directory) (yanked m) (yanked (merge l m)) (yanked-raised l m g) (m .decks) (g .second .decks))
 
 -- THE CHOICE
 pub choice-append : (ds es : List DeckView) → fullChoice (ds ++ es) ≡ fullChoice ds ++ fullChoice es

@@ -12,12 +12,11 @@ use Rattle.demands.proofs.TakenBack.{taken-back, restored}
 use Rattle.demands.proofs.Cut.{cut-parts}
 use Rattle.demands.proofs.Instances.{shown-back, none-spare}
 use Rattle.demands.proofs.CutShown.{shown-cut, none-spare-cut, size-needed}
-use Rattle.merge.proofs.Soundness.{merge-sound}
-use Rattle.merge.proofs.Limits.{merge-length, merge-limits}
-use Rattle.merge.proofs.Answers.{merged-passes, merge-fresh, merging-fresh}
-use Rattle.merge.proofs.MergedFlags.{yanked-first, yanked-second}
-use Rattle.merge.proofs.MergedImage.{image-merged}
-use Rattle.demands.proofs.MergedView.{view-merged}
+use Rattle.merge_meaning.proofs.Soundness.{merge-sound}
+use Rattle.merge_meaning.proofs.Limits.{merge-length, merge-limits}
+use Rattle.merge_meaning.proofs.Answers.{merged-passes, merge-fresh, merging-fresh}
+use Rattle.merge_meaning.proofs.MergedFlags.{yanked-first, yanked-second}
+use Rattle.merge_meaning.proofs.MergedImage.{image-merged}
 use Rattle.demands.proofs.MergedFile.{file-merged, file-in-full}
 use Rattle.demands.proofs.TakenIn.{yank-first, yank-second, file-first, file-second}
 use Rattle.demands.proofs.MergeShown.{merges-hold, merge-spare, numbers-spare, file-spare, yank-met, yank-spare}
@@ -66,7 +65,6 @@ promised =
       yanked-first = yanked-first;
       yanked-second = yanked-second;
       image-merged = image-merged;
-      view-merged = view-merged;
       file-merged = file-merged;
       file-in-full = file-in-full;
       merge-fresh = merge-fresh;

@@ -13,11 +13,11 @@ use Rattle.library.proofs.Flags.{yankList, flags, yanked-rule, flags-solve}
 use Rattle.corrections.proofs.YankingSet.{actsOn}
 use Rattle.walks.specs.View.{DeckView, view}
 use Rattle.walks.proofs.ViewBack.{takenBack}
-use Rattle.merge.specs.Merge.{merge}
-use Rattle.merge.specs.Merged.{Mergeable, raiseDeckNumber}
+use Rattle.merge_meaning.specs.Merge.{merge}
+use Rattle.merge_meaning.specs.Merged.{Mergeable, raiseDeckNumber}
 use Rattle.demands.specs.MergedFile.{raiseView}
 use Rattle.demands.specs.MergedYank.{Taken}
-use Rattle.merge.proofs.Raised.{first-high}
+use Rattle.merge_meaning.proofs.Raised.{first-high}
 use Rattle.demands.proofs.YankedIn.{acts-append, Ran, ran-known, ran-lower, ran-yanked, ran-solves, after-first, after-second}
 use Rattle.demands.proofs.TakenViews.{own-free, active-first, active-second, view-end, view-after, turned-first, turned-second}
 

@@ -17,12 +17,12 @@ use Rattle.compile.specs.Compile.{lineRoom, compileView}
 use Rattle.corrections.specs.Run.{updated, update, newLibrary, running}
 use Rattle.corrections.specs.Units.{yankedNames, isYankingSet}
 use Rattle.corrections.proofs.RunFrom.{RanFrom, run-from, good-is}
-use Rattle.merge.specs.Merge.{merge, oneLibrary, merging}
-use Rattle.merge.specs.Merged.{Mergeable}
+use Rattle.merge_meaning.specs.Merge.{merge, oneLibrary, merging}
+use Rattle.merge_meaning.specs.Merged.{Mergeable}
 use Rattle.demands.specs.MergedYank.{Taken, YankFirst, YankSecond, FileFirst, FileSecond}
-use Rattle.merge.proofs.Answers.{MergedFrom, merged-from, mergeable, merged-passes}
+use Rattle.merge_meaning.proofs.Answers.{MergedFrom, merged-from, mergeable, merged-passes}
 use Rattle.walks.proofs.Writes.{writes-walk}
-use Rattle.merge.proofs.Soundness.{namesIn}
+use Rattle.merge_meaning.proofs.Soundness.{namesIn}
 use Rattle.demands.proofs.Answers.{compile-good}
 use Rattle.demands.proofs.JoinedViews.{viewNames}
 use Rattle.demands.proofs.MergedFile.{names-of, writes-both, compiled-writes}

@@ -16,13 +16,13 @@ use Rattle.corrections.proofs.FlatFlags.{above-free}
 use Rattle.walks.specs.View.{DeckView, viewDecks, view}
 use Rattle.walks.proofs.ViewBack.{takenBack}
 use Rattle.library_raise.specs.RaisedCards.{raiseCard, raiseDeck}
-use Rattle.merge.specs.Merge.{merge}
-use Rattle.merge.specs.Merged.{Mergeable, raiseDeckNumber}
+use Rattle.merge_meaning.specs.Merge.{merge}
+use Rattle.merge_meaning.specs.Merged.{Mergeable, raiseDeckNumber}
 use Rattle.demands.specs.MergedFile.{raiseView}
 use Rattle.demands.specs.MergedYank.{turned}
-use Rattle.merge.proofs.MergedFlags.{positive, counted, yanked-first, yanked-second}
+use Rattle.merge_meaning.proofs.MergedFlags.{positive, counted, yanked-first, yanked-raised}
 use Rattle.library_raise.proofs.RaisedCards.{active-raised}
-use Rattle.merge.proofs.MergedImage.{active-agree}
+use Rattle.merge_meaning.proofs.MergedImage.{active-agree}
 use Rattle.demands.proofs.MergedView.{decks-first, decks-second, view-append}
 
 pub own-free : (l : Library) → Sound l → flags l (suc (count l)) ≡ false
@@ -51,7 +51,7 @@ module _ (l m : Library) (q : Mergeable l m) (new x : Library) where
       → (deck : ℕ) (c : Card) → SoundCard (m .directory) c
       → turned (merge l m) new (raiseDeckNumber (length (l .directory)) deck) (raiseCard (length (l .directory)) c) ≡ turned m x deck c
   turned-second h deck c s =
-      ap₂ (λ (a b : Bool). not (Bool·beq a b)) (active-second l m (merge l m) (yanked m) (yanked-second l m q) deck c s) (active-second l m new (yanked x) h deck c s)
+      ap₂ (λ (a b : Bool). not (Bool·beq a b)) (active-second l m (merge l m) (yanked m) (yanked-raised l m q) deck c s) (active-second l m new (yanked x) h deck c s)
 
 -- WHAT A COMPILE FILE SEES, from flags: one more name at the end of a directory changes nothing
 pub view-end : (l : Library) → Sound l → (yk : ℕ → ℕ → Bool) (w : ℕ) → viewDecks yk (l .directory ++ (w ∷ [])) (l .decks) ≡ viewDecks yk (l .directory) (l .decks)

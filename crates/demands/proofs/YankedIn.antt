@@ -42,15 +42,15 @@ use Rattle.corrections.proofs.Updates.{EndsIn, update-ends}
 use Rattle.corrections.proofs.StepSound.{update-sound}
 use Rattle.walks.proofs.ViewBack.{takenBack}
 use Rattle.library_raise.specs.RaisedCards.{raiseCard}
-use Rattle.merge.specs.Merge.{merge, sharedName, oneLibrary, merging}
-use Rattle.merge.specs.Merged.{Mergeable, raiseDeckNumber}
+use Rattle.merge_meaning.specs.Merge.{merge, sharedName, oneLibrary, merging}
+use Rattle.merge_meaning.specs.Merged.{Mergeable, raiseDeckNumber}
 use Rattle.library.proofs.Beyond.{from-beyond, entry-beyond}
 use Rattle.library.proofs.EntryNames.{not-purged}
 use Rattle.library.proofs.YankNames.{yank-named}
-use Rattle.merge.proofs.Apart.{Apart, not-first}
-use Rattle.merge.proofs.Raised.{raiseTarget, any-raise, raise-low, first-high}
-use Rattle.merge.proofs.Soundness.{apart, sound-both}
-use Rattle.merge.proofs.MergedFlags.{wanted, wanted-low, wanted-high, rule-low, rule-high, each-number}
+use Rattle.merge_meaning.proofs.Apart.{Apart, not-first}
+use Rattle.merge_meaning.proofs.Raised.{raiseTarget, any-raise, raise-low, first-high}
+use Rattle.merge_meaning.proofs.Soundness.{apart, sound-both}
+use Rattle.merge_meaning.proofs.MergedFlags.{wanted, wanted-low, wanted-high, rule-low, rule-high, each-number}
 
 -- A SET THAT ONLY YANKS
 module _ (b : Library) (w : ℕ) (own : List Card) (s : Sound b) (mine : Each (OwnCard (suc (count b))) own) where

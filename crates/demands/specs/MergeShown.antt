@@ -6,7 +6,7 @@
 --   M2                    NumbersSpare
 --   M3                    FileSpare
 --   M5                    YankMet, YankSpare
-use Prim.Native.Nat.{ℕ, zero, suc, _+_, _*_, _^_}
+use Prim.Native.Nat.{ℕ, zero, suc, _+_, _-_, _*_, _^_}
 use Prim.Native.String.{String}
 use mathlib.Core.Bool.{Bool, true, false, _&&_, not}
 use mathlib.Core.List.{List, [], _∷_, _++_}
@@ -15,13 +15,16 @@ use lib.Dec.{T, eqb}
 use lib.ListN.{length, drop, replicate}
 use Rattle.words.specs.Base.{all, same}
 use Rattle.lines.specs.Directive.{lines}
-use Rattle.library.specs.Library.{Library, fresh, purged, reserved}
+use Rattle.library.specs.Library.{Library, deckNames, fresh, purged, reserved}
 use Rattle.library.specs.Yanks.{yanked}
-use Rattle.library.specs.Image.{header, encode, withinLimits}
+use Rattle.library.specs.Image.{header, counts, encode, withinLimits}
+use Rattle.library.specs.Counts.{withinCounts}
 use Rattle.library.specs.Check.{Checking, good, bad, check, checked, checkedNumber}
 use Rattle.corrections.specs.Units.{isYankingSet}
 use Rattle.compile.specs.Compile.{compiling, compiled, compiledNumber, compiledSecond, compileInto}
-use Rattle.merge.specs.Merge.{merge, sharedName, Merging, merging, merged, mergedNumber, mergedValue, mergedWhich, mergeInto}
+use Rattle.library_raise.specs.Raised.{raisedWords}
+use Rattle.merge_meaning.specs.Merge.{merge, sharedName, Merging, merging, merged, mergedNumber, mergedValue, mergedWhich, mergeInto}
+use Rattle.merge_meaning.specs.Merged.{yankWords, deckWords}
 use Rattle.demands.specs.Shown.{streamOf}
 use Rattle.demands.specs.Instances.{wroteOne, ranOn, written}
 
@@ -182,6 +185,10 @@ mergeCases =
       which = 0;
       gives = [];
     }
+    -- the fresh library on either side gives the other one, in a space for exactly its words; in one word less it does not
+    ∷ record { first = ran []; second = ran ships; room = length (made ships); number = 0; value = length (made ships); which = 0; gives = made ships }
+    ∷ record { first = ran ships; second = ran []; room = length (made ships); number = 0; value = length (made ships); which = 0; gives = made ships }
+    ∷ record { first = ran []; second = ran ships; room = length (made ships) - 1; number = 32; value = 0; which = 0; gives = [] }
     -- and a name that both have
     ∷ record {
       first = entries 1000 1;
@@ -218,6 +225,10 @@ noneShared l m = isNone (sharedName l m)
 abbrev pub nameless : Library
 nameless = record { directory = 0 ∷ []; yanks = []; decks = [] }
 
+-- a card with 65 bytes in its history
+abbrev pub tall : Library
+tall = record { directory = 0o01000000000000000000 ∷ []; yanks = record { line = []; seq = 1; owner = 1; later = replicate 64 (record { number = 1; activating = true }) } ∷ []; decks = [] }
+
 -- what holds of the two, each as said: the first sound, the second sound, no common name, within the limits
 abbrev pub asked : Library → Library → List Bool
 asked l m = eqb (checkOf l) 0 ∷ eqb (checkOf m) 0 ∷ noneShared l m ∷ withinLimits (merge l m) ∷ []
@@ -236,17 +247,26 @@ spareTests =
     ∷ (sameBits (true ∷ true ∷ false ∷ true ∷ []) (asked (libraryOf (ran ships)) (libraryOf (ran ships))) && eqb (checkOf (merge (libraryOf (ran ships)) (libraryOf (ran ships)))) 4)
     ∷ (sameBits (true ∷ true ∷ true ∷ false ∷ []) (asked (libraryOf (entries 1000 0)) (libraryOf (entries 24 0))) && eqb (checkOf (merge (libraryOf (entries 1000 0)) (libraryOf (entries 24 0)))) 3)
     ∷ (sameBits (false ∷ true ∷ true ∷ true ∷ []) (asked nameless fresh) && eqb (checkOf (merge nameless fresh)) 4)
-    ∷ (sameBits (true ∷ false ∷ true ∷ true ∷ []) (asked fresh nameless) && eqb (checkOf (merge fresh nameless)) 4) ∷ []
+    ∷ (sameBits (true ∷ false ∷ true ∷ true ∷ []) (asked fresh nameless) && eqb (checkOf (merge fresh nameless)) 4)
+    -- the limits are not told from the counts where a history is too long
+    ∷ (withinCounts 1 1 1 (length (encode tall)) && not (withinLimits (merge tall fresh)) && not (withinLimits (merge fresh tall))) ∷ []
 
 unfoldable pub MergeSpare : Type 0
 MergeSpare = T (all (λ b. b) spareTests)
 
--- M2: numbers past the first's directory are the second's: 4 + 4 is BACK, which is yanked there, and 8 of the first is nothing
+-- M2: numbers past the first's directory are the second's: 3 + 4 is BACK, which is yanked there, and 7 of the first is nothing. With a common name a YANK of the second
+-- names the first's set, so that its own is yanked no more, and the words are others
+abbrev pub stretches : Library → Library → List ℕ
+stretches l m =
+    (header ∷ (counts l + counts m - 1) ∷ ((l .directory ++ m .directory) ++ (deckNames l ++ drop 1 (deckNames m))))
+    ++ ((yankWords l ++ raisedWords (length (l .directory)) (yankWords m)) ++ (deckWords l ++ raisedWords (length (l .directory)) (deckWords m)))
+
 abbrev pub numbersTest : Bool
 numbersTest =
     let l : Library = libraryOf (ran ships) in
     let m : Library = libraryOf (ran boats) in
-    yanked (merge l m) 0 (3 + 4) && not (yanked l 0 7) && yanked m 0 4 && yanked (merge l m) 0 2 && yanked l 0 2
+    yanked (merge l m) 0 (3 + 4) && not (yanked l 0 7) && yanked m 0 4 && yanked (merge l m) 0 2 && yanked l 0 2 && same (encode (merge l m)) (stretches l m)
+    && not (yanked (merge l l) 0 (3 + 2)) && not (same (encode (merge l l)) (stretches l l))
 
 unfoldable pub NumbersSpare : Type 0
 NumbersSpare = T numbersTest
@@ -323,6 +343,9 @@ left = made ("*DECK P" ∷ "P2" ∷ "P3" ∷ "*IDENT S" ∷ "*DELETE P.2" ∷ "*
 abbrev pub right : List ℕ
 right = made ("*DECK Q" ∷ "Q2" ∷ "Q3" ∷ "*IDENT V" ∷ "*DELETE Q.2" ∷ "*IDENT W" ∷ "*YANK V" ∷ [])
 
+abbrev pub served : List ℕ
+served = made ("*COMDECK VALVE" ∷ " C=4" ∷ "*IDENT ONE" ∷ "*INSERT VALVE.2" ∷ " C=5" ∷ [])
+
 abbrev pub reaches : List String
 reaches = "*IDENT U" ∷ "*YANK T" ∷ "*DELETE T.1,U.1" ∷ []
 
@@ -332,7 +355,10 @@ spareYank =
     ∷ accepted left reaches ∷ accepted (mergedImage left right) reaches
     ∷ eqb (answer (after left reaches)) 0 ∷ eqb (answer right) 0
     ∷ not (same (file (after (mergedImage left right) reaches)) (file (after left reaches) ++ file right))
-    ∷ eqb (length (file (after left reaches) ++ file right)) 364 ∷ eqb (length (file (after (mergedImage left right) reaches))) 273 ∷ []
+    ∷ eqb (length (file (after left reaches) ++ file right)) 364 ∷ eqb (length (file (after (mergedImage left right) reaches))) 273
+    -- nor where the other library does not compile: its CALL finds a deck of the one
+    ∷ accepted served yanksOne ∷ eqb (answer (after served yanksOne)) 0 ∷ eqb (answer caller) 40 ∷ accepted (mergedImage served caller) yanksOne
+    ∷ eqb (answer (after (mergedImage served caller) yanksOne)) 0 ∷ []
 
 unfoldable pub YankSpare : Type 0
 YankSpare = T (all (λ b. b) spareYank)

@@ -11,8 +11,8 @@ use Rattle.walks.specs.View.{Shown, DeckView, view}
 use Rattle.walks.specs.Walk.{Walk, walked}
 use Rattle.walks.specs.Ends.{Ends}
 use Rattle.compile.specs.Compile.{lineRoom, ofWalk, compiling}
-use Rattle.merge.specs.Merge.{merge, oneLibrary, merging}
-use Rattle.merge.specs.Merged.{Mergeable}
+use Rattle.merge_meaning.specs.Merge.{merge, oneLibrary, merging}
+use Rattle.merge_meaning.specs.Merged.{Mergeable}
 
 -- an active card with its owner's number raised: its line, its owner's name and its number are printed, and stay
 abbrev pub raiseShown : ℕ → Shown → Shown

@@ -22,8 +22,8 @@ use Rattle.walks.specs.Walk.{Walk, walked}
 use Rattle.walks.specs.Ends.{Ends}
 use Rattle.compile.specs.Compile.{lineRoom, ofWalk, compiling}
 use Rattle.library_raise.specs.RaisedCards.{raiseCard}
-use Rattle.merge.specs.Merge.{merge, oneLibrary, merging}
-use Rattle.merge.specs.Merged.{raiseDeckNumber}
+use Rattle.merge_meaning.specs.Merge.{merge, oneLibrary, merging}
+use Rattle.merge_meaning.specs.Merged.{raiseDeckNumber}
 use Rattle.demands.specs.MergedFile.{raiseView}
 
 -- whether a card of a deck (0: YANK$$$) is active in one of two libraries and not in the other

@@ -11,8 +11,8 @@ use Rattle.demands.specs.Cut.{B3}
 use Rattle.demands.specs.Shown.{AllHold}
 use Rattle.demands.specs.Instances.{ShownBack, NoneSpare}
 use Rattle.demands.specs.CutShown.{ShownCut, NoneSpareCut, SizeNeeded}
-use Rattle.merge.specs.Merged.{MergeSound, MergedPasses, MergeLength, MergeLimits, YankedFirst, YankedSecond, MergedImage, MergeFresh, MergingFresh}
-use Rattle.demands.specs.MergedFile.{ViewMerged, FileMerged, FileInFull}
+use Rattle.merge_meaning.specs.Merged.{MergeSound, MergedPasses, MergeLength, MergeLimits, YankedFirst, YankedSecond, MergedImage, MergeFresh, MergingFresh}
+use Rattle.demands.specs.MergedFile.{FileMerged, FileInFull}
 use Rattle.demands.specs.MergedYank.{YankFirst, YankSecond, FileFirst, FileSecond}
 use Rattle.demands.specs.MergeShown.{MergesHold, MergeSpare, NumbersSpare, FileSpare, YankMet, YankSpare}
 
@@ -80,7 +80,6 @@ pub record Promises : Type 0 where
   pub yanked-second : YankedSecond
   pub image-merged : MergedImage
   -- M3: where both compile, the merged file is the first's followed by the second's with the calls of both, unless 43 or 44 is met.
-  pub view-merged : ViewMerged
   pub file-merged : FileMerged
   pub file-in-full : FileInFull
   -- M4: the fresh library on either side gives the other one back.

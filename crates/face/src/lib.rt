@@ -6,7 +6,7 @@ ghost use Rattle.fresh.specs.Fresh.{freshing, freshInto, begunNumber, begunValu
 ghost use Rattle.keeper.specs.Keeper.{listing};
 ghost use Rattle.library.specs.Check.{check, checked, checkedNumber, checkedPlace};
 ghost use Rattle.corrections.specs.Run.{running, ran, runInto, ranNumber, ranValue};
-ghost use Rattle.merge.specs.Merge.{merging, merged, mergeInto, mergedNumber, mergedValue, mergedWhich};
+ghost use Rattle.merge_meaning.specs.Merge.{merging, merged, mergeInto, mergedNumber, mergedValue, mergedWhich};
 ghost use Rattle.compile.specs.Compile.{compiling, compiled, compileInto, compiledNumber, compiledFirst, compiledSecond};
 ghost use Rattle.packing.specs.Pack.{packingEights, unpackingEights, packEightsInto, unpackEightsInto, packingNumber, packingValue};
 

@@ -25,13 +25,13 @@ use Rattle.library.proofs.CheckEncode.{check-encode}
 use Rattle.library.proofs.ImageParts.{accepted-is, rejected-is, read-sound, entries-are, decks-are}
 use Rattle.tables.specs.Found.{found}
 use Rattle.image.specs.Places.{placesIn}
-use Rattle.merge.specs.declared.Merged.{Merged}
-use Rattle.merge.specs.declared.Merged.the-variants.{Done, First, Second, Shared, Limit, Space}
+use Rattle.merge_meaning.specs.declared.Merged.{Merged}
+use Rattle.merge_meaning.specs.declared.Merged.the-variants.{Done, First, Second, Shared, Limit, Space}
 use Rattle.merge.specs.declared.parts.Parts.{Parts}
-use Rattle.merge.specs.Merge.{merge, isShared, sharedName, Merging, oneLibrary, overLimit, noRoom, fittedIn, fromShared, fromChecked, merging, mergeInto}
-use Rattle.merge.specs.Merged.{Mergeable}
+use Rattle.merge_meaning.specs.Merge.{merge, isShared, sharedName, Merging, oneLibrary, overLimit, noRoom, fittedIn, fromShared, fromChecked, merging, mergeInto}
+use Rattle.merge_meaning.specs.Merged.{Mergeable}
 use Rattle.merge.specs.Words.{Parted, mergedWords, Answers, MergesSound, MergesApart}
-use Rattle.merge.proofs.Limits.{merge-length, merge-limits}
+use Rattle.merge_meaning.proofs.Limits.{merge-length, merge-limits}
 use Rattle.merge.proofs.Encoded.{directory-of, cards-counted, words-merged}
 
 -- 31 AND 32, from the counts of the two images

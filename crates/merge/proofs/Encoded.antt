@@ -26,11 +26,11 @@ use Rattle.image.proofs.Standing.{places-more, places-end}
 use Rattle.image.proofs.Written.{inside, next-is, after}
 use Rattle.decks.specs.Decks.{deckEnd}
 use Rattle.decks.proofs.Encoded.{few, encoded, place-is, stands, whole, decks-stand, yanks-end}
-use Rattle.merge.specs.Merge.{merge}
-use Rattle.merge.specs.Merged.{Mergeable}
+use Rattle.merge_meaning.specs.Merge.{merge}
+use Rattle.merge_meaning.specs.Merged.{Mergeable}
 use Rattle.merge.specs.Words.{partsOf, Parted, yanksIn, decksIn, tablesOf, cardsOf, mergedWords}
 use Rattle.merge.specs.declared.parts.Parts.{Parts}
-use Rattle.merge.proofs.MergedImage.{image-merged}
+use Rattle.merge_meaning.proofs.MergedImage.{image-merged}
 
 -- THE CARDS: those of YANK$$$, and those of decks
 module _ (l : Library) (s : Sound l) where

@@ -19,7 +19,7 @@ use Rattle.library.proofs.Anys.{bool-iff}
 use Rattle.library.proofs.NoTwo.{none-any}
 use Rattle.library.proofs.Directories.{entry-none, entry-some}
 use Rattle.entries.specs.Names.{Knows, entryBy}
-use Rattle.merge.specs.Merge.{isShared}
+use Rattle.merge_meaning.specs.Merge.{isShared}
 use Rattle.merge.specs.Words.{sharedEntry}
 
 -- AN ENTRY

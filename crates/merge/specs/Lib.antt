@@ -1,3 +1,1 @@
-pub mod Merge
-pub mod Merged
 pub mod Words

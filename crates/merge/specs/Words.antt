@@ -15,8 +15,8 @@ use Rattle.library.specs.Library.{Library, purged, entryOf}
 use Rattle.library.specs.Check.{directoryCount, deckCount, directoryOf, deckWordsOf, cardsPlace, good, check}
 use Rattle.library_raise.specs.Raised.{raisedWords}
 use Rattle.decks.specs.Decks.{deckEnd}
-use Rattle.merge.specs.Merge.{merge, sharedName, Merging, fittedIn, fromShared, merged, mergeInto}
-use Rattle.merge.specs.declared.Merged.{Merged}
+use Rattle.merge_meaning.specs.Merge.{merge, sharedName, Merging, fittedIn, fromShared, merged, mergeInto}
+use Rattle.merge_meaning.specs.declared.Merged.{Merged}
 use Rattle.merge.specs.declared.parts.Parts.{Parts}
 
 -- PLACES: where the deck list, the cards and the first deck card stand

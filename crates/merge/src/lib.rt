@@ -1,80 +1,73 @@
-// Two libraries made one: each part of the second follows that part of the first, and the numbers in its history bytes rise by the first's directory count (02, T-11).
+// Two libraries made one: each part of the second follows that part of the first, and the numbers in its history bytes rise by the first's directory count (02, T-11). Both are
+// checked; then a name that both have, the limits and the room are looked at; then the words are put, and the second's numbers raised where they stand.
 mod counted;
 mod names;
 mod parts;
 mod put;
-mod whole;
 
+pub use merge_meaning::Merged;
+pub use merge_meaning::merged_number;
+pub use merge_meaning::merged_value;
+pub use merge_meaning::merged_which;
 ghost use mathlib.Core.Path.{_≡_};
-ghost use Rattle.merge.specs.Merge.{mergedNumber, mergedValue, mergedWhich};
-use library::Fault;
-pub use whole::merge;
+ghost use lib.ListN.{length};
+ghost use Rattle.library.specs.Readable.{Readable};
+ghost use Rattle.merge_meaning.specs.Merge.{merging, merged, mergeInto};
+ghost use Rattle.merge.specs.Words.{Parted, MergesSound, MergesApart};
+use crate::counted::count_cards;
+use crate::names::shared_name;
+use crate::parts::Parts;
+use crate::parts::parts_of;
+use crate::put::TWICE;
+use crate::put::put_merged;
+use library::Checked;
+use library::Found;
+use tables::DIRECTORY;
 
-// What a merge answers: how many words were written; the first library's fault and its place, or the second's; the word of the second at which a name stands that both
-// have; that a limit would be passed; or that the space is too short.
-pub enum Merged {
-    Done(usize),
-    First(Fault, usize),
-    Second(Fault, usize),
-    Shared(usize),
-    Limit,
-    Space,
+// Where no name is common.
+fn merge_apart(first: &[u64], a: Parts, second: &[u64], b: Parts, space: &mut [u64]) -> Merged
+    requires { ⌜ Parted (now first) a × Parted (now second) b ⌝ }
+    ensures { λ r. ⌜ MergesApart (now (first .entry)) (now (second .entry)) (now (space .entry)) (now (space .exit)) r ⌝ }
+{
+    let words = first.len() + second.len() - TWICE;
+    let entries = a.names + b.names - DIRECTORY - DIRECTORY;
+    let decks = (a.cards - a.names) + (b.cards - b.names) - 1;
+    let cards = count_cards(first, a.cards) + count_cards(second, b.cards);
+    if !library::within_limits(entries, decks, cards, words) {
+        return Merged::Limit;
+    }
+    if space.len() < words {
+        return Merged::Space;
+    }
+    put_merged(first, a, second, b, space);
+    Merged::Done(words)
 }
 
-// the rows
-const DONE: u64 = 0;
-
-const LIMIT: u64 = 31;
-
-const SPACE: u64 = 32;
-
-const SHARED: u64 = 37;
-
-// 0, or the row.
-pub fn merged_number(r: Merged) -> u64
-    ensures { λ n. ⌜ n ≡ mergedNumber r ⌝ }
+// Two images that the check accepted.
+fn merge_sound(first: &[u64], second: &[u64], space: &mut [u64]) -> Merged
+    requires { ⌜ Readable (now first) × Readable (now second) ⌝ }
+    ensures { λ r. ⌜ MergesSound (now (first .entry)) (now (second .entry)) (now (space .entry)) (now (space .exit)) r ⌝ }
 {
-    match r {
-        Merged::Done(_) => DONE,
-        Merged::First(fault, _) => library::fault_number(fault),
-        Merged::Second(fault, _) => library::fault_number(fault),
-        Merged::Shared(_) => SHARED,
-        Merged::Limit => LIMIT,
-        Merged::Space => SPACE,
+    let a = parts_of(first);
+    let b = parts_of(second);
+    let names = a.names;
+    let others = b.names;
+    match shared_name(&first[DIRECTORY..names], &second[DIRECTORY..others]) {
+        Found::At(p) => Merged::Shared(p),
+        Found::Nothing => merge_apart(first, a, second, b, space),
     }
 }
 
-// The words written, or the place.
-pub fn merged_value(r: Merged) -> u64
-    ensures { λ n. ⌜ n ≡ mergedValue r ⌝ }
+// The first library followed by the second, in the space; a refusal leaves the space as it was.
+pub fn merge(first: &[u64], second: &[u64], space: &mut [u64]) -> Merged
+    ensures answer { λ r. ⌜ r ≡ merged (merging (now (first .entry)) (now (second .entry)) (length (now (space .entry)))) ⌝ }
+    ensures space { λ _. ⌜ now (space .exit) ≡ mergeInto (merging (now (first .entry)) (now (second .entry)) (length (now (space .entry)))) (now (space .entry)) ⌝ }
 {
-    match r {
-        Merged::Done(words) => words as u64,
-        Merged::First(_, place) => place as u64,
-        Merged::Second(_, place) => place as u64,
-        Merged::Shared(place) => place as u64,
-        Merged::Limit => 0,
-        Merged::Space => 0,
-    }
-}
-
-// the library at fault
-const NEITHER: u64 = 0;
-
-const FIRST: u64 = 1;
-
-const SECOND: u64 = 2;
-
-// Which library is at fault: the first, the second, or neither.
-pub fn merged_which(r: Merged) -> u64
-    ensures { λ n. ⌜ n ≡ mergedWhich r ⌝ }
-{
-    match r {
-        Merged::Done(_) => NEITHER,
-        Merged::First(_, _) => FIRST,
-        Merged::Second(_, _) => SECOND,
-        Merged::Shared(_) => SECOND,
-        Merged::Limit => NEITHER,
-        Merged::Space => NEITHER,
+    match checks::check(first) {
+        Checked::Refused(fault, place) => Merged::First(fault, place),
+        Checked::Sound => match checks::check(second) {
+            Checked::Refused(fault, place) => Merged::Second(fault, place),
+            Checked::Sound => merge_sound(first, second, space),
+        },
     }
 }

@@ -3,7 +3,7 @@ ghost use mathlib.Core.Path.{_≡_};
 ghost use Rattle.words.specs.Base.{placeFrom};
 ghost use Rattle.entries.specs.Names.{Knows};
 ghost use Rattle.tables.specs.Found.{found};
-ghost use Rattle.merge.specs.Merge.{isShared};
+ghost use Rattle.merge_meaning.specs.Merge.{isShared};
 ghost use Rattle.merge.specs.Words.{sharedEntry};
 use entries::ALL_WAYS;
 use library::Found;

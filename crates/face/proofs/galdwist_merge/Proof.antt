@@ -1,6 +1,6 @@
 -- The library is that of the proved function; its answer gives the number and both values.
 use mathlib.Core.Path.{ap, _∙_}
-use Rattle.merge.specs.Merge.{mergedNumber, mergedValue, mergedWhich}
+use Rattle.merge_meaning.specs.Merge.{mergedNumber, mergedValue, mergedWhich}
 use borrow.Author.Needs.{needs}
 use Rattle.face.proofs.galdwist_merge.Statement.{statement}
 use Rattle.face.proofs.galdwist_merge.Tie as tie

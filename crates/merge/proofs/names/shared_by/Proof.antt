@@ -5,7 +5,7 @@ use mathlib.Core.Path.{_≡_, refl, sym, ap, _∙_}
 use lib.ListN.{length, getD, drop}
 use Rattle.words.specs.Base.{placeFrom}
 use Rattle.tables.specs.Found.{found}
-use Rattle.merge.specs.Merge.{isShared}
+use Rattle.merge_meaning.specs.Merge.{isShared}
 use Rattle.merge.proofs.Sharing.{shared-none, shared-some, place-here, place-on, place-end}
 use borrow.Author.Needs.{needs}
 use Rattle.merge.proofs.names.shared_by.Statement.{statement}

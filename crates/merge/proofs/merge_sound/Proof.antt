@@ -5,19 +5,19 @@ use mathlib.Core.Path.{_≡_, sym, ap, ap₂, _∙_, subst}
 use mathlib.Core.List.{List}
 use Rattle.words.specs.Base.{placeFrom}
 use Rattle.tables.specs.Found.{found}
-use Rattle.merge.specs.Merge.{isShared}
+use Rattle.merge_meaning.specs.Merge.{isShared}
 use Rattle.merge.specs.Words.{Parted}
 use Rattle.merge.proofs.Encoded.{parted}
 use Rattle.merge.proofs.Laying.{directory-part}
 use Rattle.merge.proofs.Answering.{shared-answer, apart-answer}
 use borrow.Author.Needs.{needs}
-use Rattle.merge.proofs.whole.merge_sound.Statement.{statement}
-use Rattle.merge.proofs.whole.merge_sound.Tie as tie
-use Rattle.merge.proofs.whole.merge_sound.Reads as reads
-use Rattle.merge.proofs.whole.merge_sound.Lts as lts
+use Rattle.merge.proofs.merge_sound.Statement.{statement}
+use Rattle.merge.proofs.merge_sound.Tie as tie
+use Rattle.merge.proofs.merge_sound.Reads as reads
+use Rattle.merge.proofs.merge_sound.Lts as lts
 use Rattle.merge.proofs.names.shared_name.Reads as shared-name-reads
 use Rattle.merge.proofs.parts.parts_of.Reads as parts-of-reads
-use Rattle.merge.proofs.whole.merge_apart.Reads as merge-apart-reads
+use Rattle.merge.proofs.merge_apart.Reads as merge-apart-reads
 
 parts-of-requires : tie.Need-parts-of-requires
 parts-of-requires c κs = search needs

@@ -19,10 +19,10 @@ use Rattle.library.proofs.Appends.{each-append}
 use Rattle.library.specs.Counts.{withinCounts}
 use Rattle.library.proofs.Sizes.{both-length, words, words-under, encode-length, within-small}
 use Rattle.library_raise.specs.RaisedCards.{raiseByte, raiseCard, raiseDeck}
-use Rattle.merge.specs.Merge.{merge}
-use Rattle.merge.specs.Merged.{MergeLength, MergeLimits}
+use Rattle.merge_meaning.specs.Merge.{merge}
+use Rattle.merge_meaning.specs.Merged.{MergeLength, MergeLimits}
 use Rattle.library.proofs.Appends.{each-parts}
-use Rattle.merge.proofs.Streams.{inDecks, stream-merge}
+use Rattle.merge_meaning.proofs.Streams.{inDecks, stream-merge}
 
 -- WORDS
 further-raise : (k : ℕ) (yk : ℕ → Bool) (bs : List Byte) → length (furtherWords (map (byteBits yk) (map (raiseByte k) bs))) ≡ length (furtherWords (map (byteBits yk) bs))

@@ -20,10 +20,10 @@ use Rattle.library.proofs.CheckSound.{check-sound, fresh-sound}
 use Rattle.library.proofs.EncodeCheck.{encode-check}
 use Rattle.library_raise.specs.RaisedCards.{raiseCard, raiseDeck}
 use Rattle.library_raise.proofs.RaisedCards.{cards-zero, decks-zero}
-use Rattle.merge.specs.Merge.{merge, isShared, sharedName, Merging, oneLibrary, badFirst, badSecond, sharedAt, overLimit, noRoom, fittedIn, fromShared, fromChecked, merging}
-use Rattle.merge.specs.Merged.{Mergeable, MergedPasses, MergeFresh, MergingFresh}
+use Rattle.merge_meaning.specs.Merge.{merge, isShared, sharedName, Merging, oneLibrary, badFirst, badSecond, sharedAt, overLimit, noRoom, fittedIn, fromShared, fromChecked, merging}
+use Rattle.merge_meaning.specs.Merged.{Mergeable, MergedPasses, MergeFresh, MergingFresh}
 use Rattle.library.proofs.Anys.{members-each}
-use Rattle.merge.proofs.Soundness.{sound-both}
+use Rattle.merge_meaning.proofs.Soundness.{sound-both}
 
 -- ACCEPTED
 pub record MergedFrom (a b : List ℕ) (room : ℕ) (c : Library) : Type 0 where

@@ -9,7 +9,7 @@ use Rattle.words.proofs.Tests.{and-both}
 use Rattle.library.specs.Each.{Each}
 use Rattle.library.specs.Library.{purged}
 use Rattle.library.proofs.Anys.{each-member}
-use Rattle.merge.specs.Merge.{isShared}
+use Rattle.merge_meaning.specs.Merge.{isShared}
 
 abbrev pub Apart : List ℕ → List ℕ → Type 0
 Apart first second = Each (λ w. T (not (isShared first w))) second

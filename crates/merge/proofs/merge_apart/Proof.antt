@@ -4,10 +4,10 @@ use mathlib.Core.Path.{ap₂}
 use borrow.Author.Tests.{not-true, not-false}
 use Rattle.merge.proofs.Answering.{limit-answer, space-answer, done-answer}
 use borrow.Author.Needs.{needs}
-use Rattle.merge.proofs.whole.merge_apart.Statement.{statement}
-use Rattle.merge.proofs.whole.merge_apart.Tie as tie
-use Rattle.merge.proofs.whole.merge_apart.Reads as reads
-use Rattle.merge.proofs.whole.merge_apart.Lts as lts
+use Rattle.merge.proofs.merge_apart.Statement.{statement}
+use Rattle.merge.proofs.merge_apart.Tie as tie
+use Rattle.merge.proofs.merge_apart.Reads as reads
+use Rattle.merge.proofs.merge_apart.Lts as lts
 use Rattle.library.proofs.within_limits.Reads as within-limits-reads
 use Rattle.merge.proofs.counted.count_cards.Reads as count-cards-reads
 use Rattle.merge.proofs.put.put_merged.Reads as put-merged-reads

@@ -19,7 +19,7 @@ use Rattle.library.specs.Check.{good, check}
 use Rattle.library.specs.Sound.{Sound}
 use Rattle.library.specs.Counts.{withinCounts}
 use Rattle.library_raise.specs.Raised.{raisedWords}
-use Rattle.merge.specs.Merge.{merge, sharedName, oneLibrary, merging}
+use Rattle.merge_meaning.specs.Merge.{merge, sharedName, oneLibrary, merging}
 
 -- two sound libraries without a common name, together within the limits
 pub record Mergeable (l m : Library) : Type 0 where
@@ -58,7 +58,7 @@ raiseDeckNumber k zero = zero
 raiseDeckNumber k (suc n) = k + suc n
 
 abbrev pub YankedSecond : Type 0
-YankedSecond = (l m : Library) → Mergeable l m → (deck n : ℕ) → 0 < n
+YankedSecond = (l m : Library) → Mergeable l m → (deck n : ℕ)
     → yanked (merge l m) (raiseDeckNumber (length (l .directory)) deck) (length (l .directory) + n) ≡ yanked m deck n
 
 -- an image is its tables, the words of YANK$$$ and the words of its decks

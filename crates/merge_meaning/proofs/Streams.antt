@@ -7,7 +7,7 @@ use Rattle.library.specs.Library.{Card, Deck, Library, deckCards, joined, strea
 use Rattle.library.proofs.Appends.{map-append}
 use Rattle.library.proofs.Streams.{joined-append}
 use Rattle.library_raise.specs.RaisedCards.{raiseCard, raiseDeck}
-use Rattle.merge.specs.Merge.{merge}
+use Rattle.merge_meaning.specs.Merge.{merge}
 
 joined-raise : (k : ℕ) (ds : List Deck) → joined (map deckCards (map (raiseDeck k) ds)) ≡ map (raiseCard k) (joined (map deckCards ds))
 joined-raise k [] = refl

@@ -21,10 +21,10 @@ use Rattle.library_raise.specs.Raised.{raisedWords}
 use Rattle.library_raise.specs.RaisedCards.{raiseCard, raiseDeck, Carries}
 use Rattle.library_raise.proofs.RaisedCards.{cards-raised, decks-raised}
 use Rattle.library_raise.proofs.SoundRaises.{cards-raise, decks-raise}
-use Rattle.merge.specs.Merge.{merge}
-use Rattle.merge.specs.Merged.{Mergeable, raiseDeckNumber, MergedImage}
-use Rattle.merge.proofs.Soundness.{deck-names-merge}
-use Rattle.merge.proofs.MergedFlags.{counted, yanked-first, yanked-second}
+use Rattle.merge_meaning.specs.Merge.{merge}
+use Rattle.merge_meaning.specs.Merged.{Mergeable, raiseDeckNumber, MergedImage}
+use Rattle.merge_meaning.proofs.Soundness.{deck-names-merge}
+use Rattle.merge_meaning.proofs.MergedFlags.{counted, yanked-first, yanked-raised}
 
 -- A CARD under flags that agree on its numbers
 bytes-agree : (f g : ℕ → Bool) (bs : List Byte) → Each (λ b. f (b .number) ≡ g (b .number)) bs → map (byteBits f) bs ≡ map (byteBits g) bs
@@ -82,14 +82,14 @@ module _ (l m : Library) (g : Mergeable l m) where
   few = let s : Small (merge l m) = within-small (merge l m) (g .limits) in omega (arith, s .entries, length-append (l .directory) (m .directory))
 
   deck-carries : (d : ℕ) → 0 < d → Carries k (yanked m d) (both (k + d))
-  deck-carries d pos n low = ap (λ (x : ℕ). both x (k + n)) (sym (raised-number k d pos)) ∙ yanked-second l m g d n low
+  deck-carries d pos n low = ap (λ (x : ℕ). both x (k + n)) (sym (raised-number k d pos)) ∙ yanked-raised l m g d n low
 
   yanks-both : cardsWords (both 0) (l .yanks ++ map (raiseCard k) (m .yanks)) ≡ cardsWords (yanked l 0) (l .yanks) ++ raisedWords k (cardsWords (yanked m 0) (m .yanks))
   yanks-both =
       cards-append (both 0) (l .yanks) (map (raiseCard k) (m .yanks))
       ∙ ap₂ (λ (a b : List ℕ). a ++ b)
       (cards-agree (l .directory) (both 0) (yanked l 0) (yanked-first l m g 0) (l .yanks) (g .first .yanks))
-      (sym (cards-raised k (yanked m 0) (both 0) (yanked-second l m g 0) (m .yanks) (cards-raise (m .directory) k few (m .yanks) (g .second .yanks))))
+      (sym (cards-raised k (yanked m 0) (both 0) (yanked-raised l m g 0) (m .yanks) (cards-raise (m .directory) k few (m .yanks) (g .second .yanks))))
 
   decks-both : decksWords both (l .decks ++ map (raiseDeck k) (m .decks)) ≡ decksWords (yanked l) (l .decks) ++ raisedWords k (decksWords (yanked m) (m .decks))
   decks-both =

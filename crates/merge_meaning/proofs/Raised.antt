@@ -22,11 +22,11 @@ use Rattle.library.proofs.EntryNames.{NamedAt, is-named, any-at}
 use Rattle.library.proofs.Directories.{entry-some}
 use Rattle.library.proofs.Acts.{deck-number}
 use Rattle.library_raise.specs.RaisedCards.{raiseByte, raiseCard, raiseDeck}
-use Rattle.merge.specs.Merged.{raiseDeckNumber}
+use Rattle.merge_meaning.specs.Merged.{raiseDeckNumber}
 use Rattle.library.proofs.Beyond.{entry-beyond, name-beyond, named-beyond}
 use Rattle.library.proofs.EntryNames.{not-purged}
 use Rattle.library.proofs.YankNames.{yank-named}
-use Rattle.merge.proofs.Apart.{Apart, not-first}
+use Rattle.merge_meaning.proofs.Apart.{Apart, not-first}
 
 -- HISTORIES
 pub history-raise : (k : ℕ) (c : Card) → history (raiseCard k c) ≡ map (raiseByte k) (history c)
@@ -99,14 +99,21 @@ raise-low k deck n le directory names own (wholeSet m ∷ ts) h =
     let pos : 0 < m = ltb→lt 0 m (and-parts (ltb 0 m) (ltb m own) (p .0) .0) in
     ap₂ _||_ (ne-eqb n (k + m) (λ e. omega arith)) (raise-low k deck n le directory names own ts (h .1))
 
+-- what a card acts on has a number, which is lower than its owner's: it covers neither 0 nor the owner's number or one above it
+pub none-covers : (deck n : ℕ) (directory names : List ℕ) (own : ℕ) → (0 < n → own ≤ n) → (ts : List Target) → Each (λ t. T (okTarget directory names own t)) ts
+    → any (covers deck n) ts ≡ false
+none-covers deck n directory names own out [] h = refl
+none-covers deck n directory names own out (wholeSet m ∷ ts) h =
+    let p = and-parts (ltb 0 m && ltb m own) (not (member (nameAt directory m) names)) (h .0) in
+    let q = and-parts (ltb 0 m) (ltb m own) (p .0) in
+    let pos : 0 < m = ltb→lt 0 m (q .0) in
+    let lt : m < own = ltb→lt m own (q .1) in
+    ap₂ _||_ (ne-eqb n m (λ e. let o : own ≤ n = out (omega arith) in omega arith)) (none-covers deck n directory names own out ts (h .1))
+
 -- and one of the first covers none above k
 pub first-high : (k deck n : ℕ) → 0 < n → (directory names : List ℕ) (own : ℕ) → own ≤ suc k → (ts : List Target) → Each (λ t. T (okTarget directory names own t)) ts
     → any (covers deck (k + n)) ts ≡ false
-first-high k deck n pos directory names own le [] h = refl
-first-high k deck n pos directory names own le (wholeSet m ∷ ts) h =
-    let p = and-parts (ltb 0 m && ltb m own) (not (member (nameAt directory m) names)) (h .0) in
-    let lt : m < own = ltb→lt m own (and-parts (ltb 0 m) (ltb m own) (p .0) .1) in
-    ap₂ _||_ (ne-eqb (k + n) m (λ e. omega arith)) (first-high k deck n pos directory names own le ts (h .1))
+first-high k deck n pos directory names own le ts h = none-covers deck (k + n) directory names own (λ q. omega arith) ts h
 
 module _ (first second : List ℕ) (a : Apart first second) where
   -- names have their numbers raised

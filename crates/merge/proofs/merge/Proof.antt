@@ -3,12 +3,12 @@ use mathlib.Core.Path.{sym, _∙_}
 use Rattle.library.proofs.ImageParts.{accepted-is, readable}
 use Rattle.merge.proofs.Answering.{first-answer, second-answer, sound-answer}
 use borrow.Author.Needs.{needs}
-use Rattle.merge.proofs.whole.merge.Statement.{statement}
-use Rattle.merge.proofs.whole.merge.Tie as tie
-use Rattle.merge.proofs.whole.merge.Reads as reads
-use Rattle.merge.proofs.whole.merge.Lts as lts
+use Rattle.merge.proofs.merge.Statement.{statement}
+use Rattle.merge.proofs.merge.Tie as tie
+use Rattle.merge.proofs.merge.Reads as reads
+use Rattle.merge.proofs.merge.Lts as lts
 use Rattle.checks.proofs.check.Reads as check-reads
-use Rattle.merge.proofs.whole.merge_sound.Reads as merge-sound-reads
+use Rattle.merge.proofs.merge_sound.Reads as merge-sound-reads
 
 check-requires : tie.Need-check-requires
 check-requires c κs = search needs

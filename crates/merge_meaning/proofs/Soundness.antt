@@ -25,16 +25,16 @@ use Rattle.library.proofs.Acts.{card-numbers, deck-number}
 use Rattle.library.proofs.Directories.{card-append, deck-append, deck-names-append, yank-append}
 use Rattle.library.proofs.NoTwo.{same-turn}
 use Rattle.library_raise.specs.RaisedCards.{raiseCard, raiseDeck}
-use Rattle.merge.specs.Merge.{merge, isShared, sharedName}
-use Rattle.merge.specs.Merged.{MergeSound}
+use Rattle.merge_meaning.specs.Merge.{merge, isShared, sharedName}
+use Rattle.merge_meaning.specs.Merged.{MergeSound}
 use Rattle.library.proofs.Beyond.{name-beyond}
 use Rattle.library.proofs.Anys.{each-member, members-each}
 use Rattle.library.proofs.TableRows.{place-none}
-use Rattle.merge.proofs.Apart.{Apart, not-first}
-use Rattle.merge.proofs.Raised.{eqb-raise, cards-raise, others-raise, deck-raise, yank-raise}
+use Rattle.merge_meaning.proofs.Apart.{Apart, not-first}
+use Rattle.merge_meaning.proofs.Raised.{eqb-raise, cards-raise, others-raise, deck-raise, yank-raise}
 use Rattle.library.proofs.NoTwo.{Across, no-two-append, across-all, no-two-four}
 use Rattle.library.proofs.Streams.{stream-sound}
-use Rattle.merge.proofs.Streams.{inDecks, stream-merge, stream-raise}
+use Rattle.merge_meaning.proofs.Streams.{inDecks, stream-merge, stream-raise}
 
 -- THE DECK LIST
 abbrev pub namesIn : List ℕ → List Deck → List ℕ

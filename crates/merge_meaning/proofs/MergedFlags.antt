@@ -27,10 +27,10 @@ use Rattle.library.proofs.Acts.{card-numbers, sound-stable}
 use Rattle.library.proofs.Flags.{yankList, flags, yanked-rule, flags-solve, flags-only}
 use Rattle.library_raise.specs.RaisedCards.{raiseByte, raiseCard}
 use Rattle.library_raise.proofs.RaisedCards.{says-raised}
-use Rattle.merge.specs.Merge.{merge, sharedName}
-use Rattle.merge.specs.Merged.{Mergeable, raiseDeckNumber, YankedFirst, YankedSecond}
-use Rattle.merge.proofs.Raised.{any-raise, raise-low, first-high, targets-raise}
-use Rattle.merge.proofs.Soundness.{apart, sound-both}
+use Rattle.merge_meaning.specs.Merge.{merge, sharedName}
+use Rattle.merge_meaning.specs.Merged.{Mergeable, raiseDeckNumber, YankedFirst, YankedSecond}
+use Rattle.merge_meaning.proofs.Raised.{any-raise, raise-low, none-covers, first-high, targets-raise}
+use Rattle.merge_meaning.proofs.Soundness.{apart, sound-both}
 
 -- HISTORIES: every number of a sound card is positive, and at most the directory's count
 pub positive : (directory : List ℕ) (c : Card) → SoundCard directory c → Each (λ b. 0 < b .number) (history c)
@@ -177,5 +177,38 @@ module _ (l m : Library) (s : Sound l) (t : Sound m) (none-shared : sharedName l
 pub yanked-first : YankedFirst
 yanked-first l m g = first-is l m (g .first) (g .second) (g .apart) (g .limits)
 
+pub yanked-raised : (l m : Library) → Mergeable l m → (deck n : ℕ) → 0 < n
+    → yanked (merge l m) (raiseDeckNumber (length (l .directory)) deck) (length (l .directory) + n) ≡ yanked m deck n
+yanked-raised l m g = second-is l m (g .first) (g .second) (g .apart) (g .limits)
+
+-- neither 0 nor the last number of a directory is yanked anywhere
+none-act : (l : Library) (deck n : ℕ) → (0 < n → length (l .directory) ≤ n) → (cs : List Card) → Each (Acting l) cs → Each (SoundCard (l .directory)) cs
+    → yankedBy (map (yankOf (l .directory)) cs) (flags l) deck n ≡ false
+unfolding Acting
+none-act l deck n out [] a h = refl
+none-act l deck n out (c ∷ cs) a h =
+    let le : c .owner ≤ length (l .directory) = card-numbers (l .directory) c (h .0) .0 .1 in
+    ap₂ _||_
+    (ap (λ (b : Bool). b && lastSays (flags l) false (history c))
+    (none-covers deck n (l .directory) (deckNames l) (c .owner) (λ p. let o : length (l .directory) ≤ n = out p in omega arith) (targets (l .directory) (c .line)) (a .0)))
+    (none-act l deck n out cs (a .1) (h .1))
+
+yanked-free : (l : Library) → Sound l → (deck n : ℕ) → (0 < n → length (l .directory) ≤ n) → yanked l deck n ≡ false
+yanked-free l s deck n out = yanked-rule l deck n ∙ none-act l deck n out (l .yanks) (acting l s) (s .yanks)
+
 pub yanked-second : YankedSecond
-yanked-second l m g = second-is l m (g .first) (g .second) (g .apart) (g .limits)
+yanked-second l m g deck n = go (decLe 1 n)
+  where
+    none-zero : yanked (merge l m) (raiseDeckNumber (length (l .directory)) deck) (length (l .directory) + 0) ≡ yanked m deck 0
+    none-zero =
+        let e : length (l .directory) + 0 ≡ length (l .directory) = omega arith in
+        ap (yanked (merge l m) (raiseDeckNumber (length (l .directory)) deck)) e
+        ∙ yanked-first l m g (raiseDeckNumber (length (l .directory)) deck) (length (l .directory)) (omega arith)
+        ∙ yanked-free l (g .first) (raiseDeckNumber (length (l .directory)) deck) (length (l .directory)) (λ p. omega arith)
+        ∙ sym (yanked-free m (g .second) deck 0 (λ p. absurd (omega arith)))
+
+    go : Dec (1 ≤ n) → yanked (merge l m) (raiseDeckNumber (length (l .directory)) deck) (length (l .directory) + n) ≡ yanked m deck n
+    go (yes a) = yanked-raised l m g deck n (omega arith)
+    go (no a) =
+        let z : 0 ≡ n = omega (arith, a) in
+        subst (λ (i : ℕ). yanked (merge l m) (raiseDeckNumber (length (l .directory)) deck) (length (l .directory) + i) ≡ yanked m deck i) z none-zero

@@ -16,8 +16,8 @@ use Rattle.library.specs.Image.{encode, withinLimits}
 use Rattle.library.specs.Check.{Checking, good, bad, check, faultNumber}
 use Rattle.library.specs.declared.Fault.{Fault}
 use Rattle.library_raise.specs.RaisedCards.{raiseCard, raiseDeck}
-use Rattle.merge.specs.declared.Merged.{Merged}
-use Rattle.merge.specs.declared.Merged.the-variants.{Done, First, Second, Shared, Limit, Space}
+use Rattle.merge_meaning.specs.declared.Merged.{Merged}
+use Rattle.merge_meaning.specs.declared.Merged.the-variants.{Done, First, Second, Shared, Limit, Space}
 
 -- each part of the second comes after that part of the first, and its numbers go on where the first's directory ends
 abbrev pub merge : Library → Library → Library
