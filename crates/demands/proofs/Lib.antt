@@ -13,5 +13,6 @@ pub mod TakenViews
 pub mod TakenFirst
 pub mod TakenSecond
 pub mod TakenIn
+pub mod YankAllowed
 pub mod MergeShown
 pub mod Promised

@@ -19,6 +19,7 @@ use Rattle.merge_meaning.proofs.MergedFlags.{yanked-first, yanked-second}
 use Rattle.merge_meaning.proofs.MergedImage.{image-merged}
 use Rattle.demands.proofs.MergedFile.{file-merged, file-in-full}
 use Rattle.demands.proofs.TakenIn.{yank-first, yank-second, file-first, file-second}
+use Rattle.demands.proofs.YankAllowed.{allowed-first, allowed-second}
 use Rattle.demands.proofs.MergeShown.{merges-hold, merge-spare, numbers-spare, file-spare, yank-met, yank-spare}
 
 pub promised : Promises
@@ -73,6 +74,8 @@ promised =
       yank-second = yank-second;
       file-first = file-first;
       file-second = file-second;
+      allowed-first = allowed-first;
+      allowed-second = allowed-second;
       merges-hold = merges-hold;
       merge-spare = merge-spare;
       numbers-spare = numbers-spare;

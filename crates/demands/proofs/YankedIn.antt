@@ -94,7 +94,7 @@ module _ (b : Library) (w : ℕ) (own : List Card) (s : Sound b) (mine : Each (O
         go (c ∷ cs) h u = each-append ok (targets (b .directory ++ (w ∷ [])) (c .line)) (allActs (b .directory ++ (w ∷ [])) cs) (one c (h .0) (u .0)) (go cs (h .1) (u .1))
 
 -- NAMES: those that a set could yank in a library are names of that library
-known-before : (directory : List ℕ) (w x : ℕ) → 0 < entryOf (directory ++ (w ∷ [])) x → entryOf (directory ++ (w ∷ [])) x ≤ length directory → 0 < entryOf directory x
+pub known-before : (directory : List ℕ) (w x : ℕ) → 0 < entryOf (directory ++ (w ∷ [])) x → entryOf (directory ++ (w ∷ [])) x ≤ length directory → 0 < entryOf directory x
 unfolding entryOf
 known-before directory w x pos le = go (ℕ-discrete (entryOf directory x) 0)
   where

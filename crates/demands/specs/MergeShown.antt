@@ -278,16 +278,16 @@ caller = made ("*DECK PUMP" ∷ " A=1" ∷ "*CALL VALVE" ∷ [])
 abbrev pub valve : List ℕ
 valve = made ("*COMDECK VALVE" ∷ " C=4" ∷ [])
 
--- a deck of 32 calls, of a common deck with 64 of an empty one: 2,080 calls and no line
+-- a deck of 13 calls, each of 13, each of 13 of an empty deck: 2,379 calls and no line
 abbrev pub times : ℕ → String → List String → List String
 times zero s ss = ss
 times (suc n) s ss = s ∷ times n s ss
 
 abbrev pub busy : List ℕ
-busy = made ("*COMDECK X" ∷ "*COMDECK Y" ∷ times 64 "*CALL X" ("*DECK Z" ∷ times 32 "*CALL Y" []))
+busy = made ("*COMDECK A" ∷ "*COMDECK B" ∷ times 13 "*CALL A" ("*COMDECK C" ∷ times 13 "*CALL B" ("*DECK D" ∷ times 13 "*CALL C" [])))
 
 abbrev pub busier : List ℕ
-busier = made ("*COMDECK U" ∷ "*COMDECK V" ∷ times 64 "*CALL U" ("*DECK W" ∷ times 32 "*CALL V" []))
+busier = made ("*COMDECK E" ∷ "*COMDECK F" ∷ times 13 "*CALL E" ("*COMDECK G" ∷ times 13 "*CALL F" ("*DECK H" ∷ times 13 "*CALL G" [])))
 
 abbrev pub calls : List ℕ → ℕ
 calls image = compiledSecond (compiled (compiling image 65520))
@@ -302,7 +302,9 @@ fileTests =
     && eqb (compiledNumber (compiled (compiling c 363))) 44)
     ∷ (eqb (answer caller) 40 && eqb (answer valve) 0 && eqb (answer (mergedImage caller valve)) 0 && eqb (length (file (mergedImage caller valve))) 182)
     ∷ (eqb (answer (mergedImage valve caller)) 0 && eqb (length (file (mergedImage valve caller))) 182)
-    ∷ (eqb (calls busy) 2080 && eqb (calls busier) 2080 && eqb (answer busy) 0 && eqb (answer busier) 0 && eqb (answer (mergedImage busy busier)) 43) ∷ []
+    ∷ (let a : List ℕ = busy in
+    let b : List ℕ = busier in
+    eqb (answer a) 0 && eqb (calls a) 2379 && eqb (answer b) 0 && eqb (calls b) 2379 && eqb (answer (mergedImage a b)) 43) ∷ []
 
 unfoldable pub FileSpare : Type 0
 FileSpare = T (all (λ b. b) fileTests)
@@ -346,6 +348,9 @@ right = made ("*DECK Q" ∷ "Q2" ∷ "Q3" ∷ "*IDENT V" ∷ "*DELETE Q.2" ∷ "
 abbrev pub served : List ℕ
 served = made ("*COMDECK VALVE" ∷ " C=4" ∷ "*IDENT ONE" ∷ "*INSERT VALVE.2" ∷ " C=5" ∷ [])
 
+abbrev pub hullToo : List String
+hullToo = "*DECK HULL" ∷ []
+
 abbrev pub reaches : List String
 reaches = "*IDENT U" ∷ "*YANK T" ∷ "*DELETE T.1,U.1" ∷ []
 
@@ -358,7 +363,9 @@ spareYank =
     ∷ eqb (length (file (after left reaches) ++ file right)) 364 ∷ eqb (length (file (after (mergedImage left right) reaches))) 273
     -- nor where the other library does not compile: its CALL finds a deck of the one
     ∷ accepted served yanksOne ∷ eqb (answer (after served yanksOne)) 0 ∷ eqb (answer caller) 40 ∷ accepted (mergedImage served caller) yanksOne
-    ∷ eqb (answer (after (mergedImage served caller) yanksOne)) 0 ∷ []
+    ∷ eqb (answer (after (mergedImage served caller) yanksOne)) 0
+    -- and it may be refused in the merged library where the other has its name, or where it is no set that only yanks
+    ∷ accepted one yanksOne ∷ not (accepted (mergedImage one (made ("*DECK U" ∷ []))) yanksOne) ∷ accepted one hullToo ∷ not (accepted (mergedImage one two) hullToo) ∷ []
 
 unfoldable pub YankSpare : Type 0
 YankSpare = T (all (λ b. b) spareYank)

@@ -3,20 +3,22 @@
 --   what such a set leaves    turned, Taken
 --   its cards                 YankFirst, YankSecond
 --   the compile file          FileFirst, FileSecond
+--   when it is accepted       onlyLimits, AllowedFirst, AllowedSecond
 use Prim.Native.Nat.{ℕ, _+_}
 use mathlib.Core.Path.{_≡_}
-use mathlib.Core.Bool.{Bool, not, Bool·beq}
+use mathlib.Core.Bool.{Bool, true, false, _||_, not, Bool·beq}
 use mathlib.Core.List.{List, _++_, map}
-use lib.Dec.{T}
+use lib.Dec.{T, eqb}
 use lib.ListN.{length}
 use Rattle.lines.specs.Directive.{lines}
-use Rattle.library.specs.Library.{Card, Library}
+use Rattle.library.specs.Each.{Each}
+use Rattle.library.specs.Library.{Card, Library, entryOf}
 use Rattle.library.specs.Yanks.{active, yanked}
 use Rattle.library.specs.Image.{encode}
 use Rattle.library.specs.Check.{good, check}
 use Rattle.library.specs.Sound.{SoundCard}
-use Rattle.corrections.specs.Run.{newLibrary, running}
-use Rattle.corrections.specs.Units.{isYankingSet}
+use Rattle.corrections.specs.Run.{Running, newLibrary, badLibrary, badStream, running, whyNumber}
+use Rattle.corrections.specs.Units.{setsOf, isYankingSet}
 use Rattle.walks.specs.View.{view}
 use Rattle.walks.specs.Walk.{Walk, walked}
 use Rattle.walks.specs.Ends.{Ends}
@@ -77,3 +79,23 @@ FileSecond = (a b : List ℕ) (room : ℕ) (c : Library) → merging a b room �
     → (i : ℕ) (ls : List (List ℕ)) (n : ℕ) → compiling a i ≡ ofWalk (walked ls n)
     → (j : ℕ) (ms : List (List ℕ)) (k : ℕ) → compiling (encode taken) j ≡ ofWalk (walked ms k)
     → (r : ℕ) → (w : Walk) × (compiling (encode new) r ≡ ofWalk w) × Ends (lineRoom r) (ls ++ ms) (n + k) w
+
+-- and a set that only yanks, accepted on the one library, is accepted on the merged one too where the other lacks its name, or is refused for a limit (31) or for the space (32) alone
+abbrev pub onlyLimits : Running → Bool
+onlyLimits (newLibrary l) = true
+onlyLimits (badLibrary f p) = false
+onlyLimits (badStream w n) = eqb (whyNumber w) 31 || eqb (whyNumber w) 32
+
+unfoldable pub AllowedFirst : Type 0
+AllowedFirst = (a b : List ℕ) (room : ℕ) (c : Library) → merging a b room ≡ oneLibrary c
+    → (m : Library) → check b ≡ good m
+    → (x : List ℕ) → T (isYankingSet (lines x)) → Each (λ w. entryOf (m .directory) w ≡ 0) (setsOf (lines x))
+    → (p : ℕ) (taken : Library) → running a x p ≡ newLibrary taken
+    → (q : ℕ) → T (onlyLimits (running (encode c) x q))
+
+unfoldable pub AllowedSecond : Type 0
+AllowedSecond = (a b : List ℕ) (room : ℕ) (c : Library) → merging a b room ≡ oneLibrary c
+    → (l : Library) → check a ≡ good l
+    → (x : List ℕ) → T (isYankingSet (lines x)) → Each (λ w. entryOf (l .directory) w ≡ 0) (setsOf (lines x))
+    → (p : ℕ) (taken : Library) → running b x p ≡ newLibrary taken
+    → (q : ℕ) → T (onlyLimits (running (encode c) x q))

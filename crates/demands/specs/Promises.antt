@@ -13,7 +13,7 @@ use Rattle.demands.specs.Instances.{ShownBack, NoneSpare}
 use Rattle.demands.specs.CutShown.{ShownCut, NoneSpareCut, SizeNeeded}
 use Rattle.merge_meaning.specs.Merged.{MergeSound, MergedPasses, MergeLength, MergeLimits, YankedFirst, YankedSecond, MergedImage, MergeFresh, MergingFresh}
 use Rattle.demands.specs.MergedFile.{FileMerged, FileInFull}
-use Rattle.demands.specs.MergedYank.{YankFirst, YankSecond, FileFirst, FileSecond}
+use Rattle.demands.specs.MergedYank.{YankFirst, YankSecond, FileFirst, FileSecond, AllowedFirst, AllowedSecond}
 use Rattle.demands.specs.MergeShown.{MergesHold, MergeSpare, NumbersSpare, FileSpare, YankMet, YankSpare}
 
 pub record Promises : Type 0 where
@@ -90,6 +90,9 @@ pub record Promises : Type 0 where
   pub yank-second : YankSecond
   pub file-first : FileFirst
   pub file-second : FileSecond
+  -- and it is accepted there, but for 31 and 32, wherever it is accepted on that one and the other lacks its name.
+  pub allowed-first : AllowedFirst
+  pub allowed-second : AllowedSecond
   -- M1 to M5 are met by small merges, and without any one of their hypotheses the answer can be another.
   pub merges-hold : MergesHold
   pub merge-spare : MergeSpare

@@ -83,13 +83,13 @@ module _ (l m : Library) (s : Sound l) (t : Sound m) (none-shared : sharedName l
   apart = place-none (isShared first) 2 second none-shared
 
   -- names of the one are no decks of the other
-  first-free : (x : ℕ) → T (member x first) → T (not (member x (deckNames l))) → T (not (member x (deckNames (merge l m))))
+  pub first-free : (x : ℕ) → T (member x first) → T (not (member x (deckNames l))) → T (not (member x (deckNames (merge l m))))
   first-free x here free =
       subst (λ (ns : List ℕ). T (not (member x ns))) (sym (deck-names-merge l m s t))
       (member-or x (deckNames l) (namesIn second (m .decks)) free
       (λ u. let q = each-member _ (namesIn second (m .decks)) x u (real-names m t) in T-not (member x first) (not-first first second apart x (q .1) (q .0)) here))
 
-  second-free : (x : ℕ) → T (member x second) → T (not (member x (deckNames m))) → T (not (member x (deckNames (merge l m))))
+  pub second-free : (x : ℕ) → T (member x second) → T (not (member x (deckNames m))) → T (not (member x (deckNames (merge l m))))
   unfolding deckNames
   second-free x here free =
       let ns : List ℕ = namesIn first (l .decks) in
