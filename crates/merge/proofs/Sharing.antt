@@ -3,6 +3,7 @@
 --   place-here, place-on, place-end     the search
 use Prim.Native.Nat.{ℕ, zero, suc, _+_, _<_, _≤_}
 use native.Mathlib.Omega.{arith}
+use native.Mathlib.Decide.{ℕ-discrete}
 use native.Mathlib.Numerals.{add-one}
 use mathlib.Core.Path.{_≡_, refl, sym, ap, ap₂, _∙_}
 use mathlib.Core.Bool.{Bool, true, false, _&&_, not}
@@ -31,6 +32,18 @@ module _ (directory : List ℕ) (w : ℕ) where
   pub entry-named : (ways : List ℕ) → Knows directory ways → (w ≡ purged → ⊥) → (r : ℕ) → r ≡ entryBy directory ways w → r ≡ sharedEntry directory w
   unfolding sharedEntry
   entry-named ways k d r e = rw (ne-eqb w purged d) (e ∙ k w)
+
+  entry-bound : sharedEntry directory w ≤ length directory
+  unfolding sharedEntry
+  entry-bound = go (eqb w purged) (ℕ-discrete (entryOf directory w) 0)
+    where
+      go : (b : Bool) → Dec (entryOf directory w ≡ 0) → (if b then 0 else entryOf directory w) ≤ length directory
+      go true d = omega arith
+      go false (yes e) = omega arith
+      go false (no ne) = entry-some directory w (omega (arith, ne)) .1
+
+  pub bounded : (r : ℕ) → r ≡ sharedEntry directory w → (r ≡ sharedEntry directory w) × (r ≤ length directory)
+  bounded r e = (e, omega (arith, entry-bound))
 
   is-none : (b : Bool) → T (not b) → b ≡ false
   is-none true t = absurd t

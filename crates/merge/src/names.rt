@@ -1,5 +1,7 @@
 // A name that both directories have (37).
 ghost use mathlib.Core.Path.{_≡_};
+ghost use Prim.Native.Nat.{_≤_};
+ghost use lib.ListN.{length};
 ghost use Rattle.words.specs.Base.{placeFrom};
 ghost use Rattle.entries.specs.Names.{Knows};
 ghost use Rattle.tables.specs.Found.{found};
@@ -13,7 +15,7 @@ use tables::PURGED;
 // The number of an entry's name in the first directory, by a tree of its names; 0 where it has none, and for a purged entry, which is no name.
 fn shared_entry(first: &[u64], ways: &[u16; ALL_WAYS], w: u64) -> usize
     requires { ⌜ Knows (now first) (now ways) ⌝ }
-    ensures { λ r. ⌜ r ≡ sharedEntry (now (first .entry)) w ⌝ }
+    ensures { λ r. ⌜ (r ≡ sharedEntry (now (first .entry)) w) × (r ≤ length (now (first .entry))) ⌝ }
 {
     if w == PURGED {
         return 0;

@@ -40,7 +40,7 @@ returns c =
     let a = c .before .before .before .before .before .before .before .args in
     let l = c .before .before .before .before .loop in
     let low = c .before .before .before .loop-test .taken in
-    let some = shared-some (a .first .now) (getD (a .second .now) (l .i) 0) (λ e. c .if1 .taken (c .before .shared-entry .ensures ∙ e)) in
+    let some = shared-some (a .first .now) (getD (a .second .now) (l .i) 0) (λ e. c .if1 .taken (c .before .shared-entry .ensures .0 ∙ e)) in
     sym (ap found (l .inv .1 ∙ place-here (isShared (a .first .now)) (a .second .now) (l .i) low some))
 
 add-i : tie.Need-add-i Inv-loop μ-loop
@@ -54,7 +54,7 @@ loop-again c =
     let a = c .before .before .before .before .before .before .before .args in
     let l = c .before .before .before .before .loop in
     let low = c .before .before .before .loop-test .taken in
-    let none-here = shared-none (a .first .now) (getD (a .second .now) (l .i) 0) (sym (c .before .shared-entry .ensures) ∙ c .if1 .left) in
+    let none-here = shared-none (a .first .now) (getD (a .second .now) (l .i) 0) (sym (c .before .shared-entry .ensures .0) ∙ c .if1 .left) in
     (omega (arith, low), l .inv .1 ∙ place-on (isShared (a .first .now)) (a .second .now) (l .i) low none-here)
 
 returns-2 : tie.Need-returns-2 Inv-loop μ-loop
