@@ -1,6 +1,7 @@
 -- What is answered of two libraries that were read: 37, 31 by the counts of both, 32, or the merged words.
---   shared-answer, apart-answer     37, or what comes after it
+--   within                          the limits of both, by their counts
 --   limit-answer, space-answer, done-answer     31, 32, the words
+--   shared-answer, apart-answer     37, or what comes after it
 --   first-answer, second-answer, sound-answer   the checks
 use Prim.Native.Nat.{ℕ, suc, _+_, _-_, _≤_, _<_}
 use native.Mathlib.Omega.{arith}
@@ -19,26 +20,25 @@ use Rattle.library.specs.Check.{directoryCount, deckCount, directoryOf, cardsPl
 use Rattle.library.specs.Counts.{withinCounts}
 use Rattle.library.specs.declared.Fault.{Fault}
 use Rattle.library.specs.declared.Checked.the-variants.{Sound as Accepts, Refused as Rejects}
-use Rattle.library.specs.declared.Found.{Found}
-use Rattle.library.specs.declared.Found.the-variants.{At, Nothing}
 use Rattle.library.proofs.CheckEncode.{check-encode}
 use Rattle.library.proofs.ImageParts.{accepted-is, rejected-is, read-sound, entries-are, decks-are}
-use Rattle.tables.specs.Found.{found}
+use Rattle.rows.proofs.Placing.{placed-within}
 use Rattle.image.specs.Places.{placesIn}
 use Rattle.merge_meaning.specs.declared.Merged.{Merged}
 use Rattle.merge_meaning.specs.declared.Merged.the-variants.{Done, First, Second, Shared, Limit, Space}
 use Rattle.merge.specs.declared.parts.Parts.{Parts}
 use Rattle.merge_meaning.specs.Merge.{merge, isShared, sharedName, Merging, oneLibrary, overLimit, noRoom, fittedIn, fromShared, fromChecked, merging, mergeInto}
 use Rattle.merge_meaning.specs.Merged.{Mergeable}
-use Rattle.merge.specs.Words.{Parted, mergedWords, Answers, MergesSound, MergesApart}
+use Rattle.merge.specs.Words.{Parted, mergedWords, orNone, Answers, MergesSound}
 use Rattle.merge_meaning.proofs.Limits.{merge-length, merge-limits}
 use Rattle.merge.proofs.Encoded.{directory-of, cards-counted, words-merged}
 
--- 31 AND 32, from the counts of the two images
-module _ (ws vs : List ℕ) (a b : Parts) (f : Parted ws a) (g : Parted vs b) (l m : Library) (p : check ws ≡ good l) (q : check vs ≡ good m) where
-  long-of : length ws + length vs - 3 ≡ length (encode (merge l m))
-  long-of = ap₂ (λ (x y : ℕ). x + y - 3) (ap length (sym (check-encode ws l p))) (ap length (sym (check-encode vs m q))) ∙ sym (merge-length l m)
+-- the words of both
+long-of : (ws vs : List ℕ) (l m : Library) → check ws ≡ good l → check vs ≡ good m → length ws + length vs - 3 ≡ length (encode (merge l m))
+long-of ws vs l m p q = ap₂ (λ (x y : ℕ). x + y - 3) (ap length (sym (check-encode ws l p))) (ap length (sym (check-encode vs m q))) ∙ sym (merge-length l m)
 
+-- THE LIMITS, from the counts of the two images
+module _ (ws vs : List ℕ) (a b : Parts) (f : Parted ws a) (g : Parted vs b) (l m : Library) (p : check ws ≡ good l) (q : check vs ≡ good m) where
   entries-of : a .names + b .names - 2 - 2 ≡ length (l .directory) + length (m .directory)
   entries-of = omega (arith, f .names, g .names, entries-are ws l p, entries-are vs m q)
 
@@ -55,57 +55,63 @@ module _ (ws vs : List ℕ) (a b : Parts) (f : Parted ws a) (g : Parted vs b) (l
       let n = entries-of in
       let d = decks-of in
       let k = c ∙ cards-of in
-      let w : length ws + length vs - 3 ≡ length (encode l) + length (encode m) - 3 = long-of ∙ merge-length l m in
+      let w : length ws + length vs - 3 ≡ length (encode l) + length (encode m) - 3 = long-of ws vs l m p q ∙ merge-length l m in
       (λ i. withinCounts (n i) (d i) (k i) (w i)) ∙ sym (merge-limits l m (read-sound ws l p) (read-sound vs m q))
 
-  module _ (space : List ℕ) (cards : ℕ) (c : cards ≡ length (placesIn ws (a .cards)) + length (placesIn vs (b .cards))) (r : Bool)
-      (is : r ≡ withinCounts (a .names + b .names - 2 - 2) ((a .cards - a .names) + (b .cards - b .names) - 1) cards (length ws + length vs - 3)) where
-    within : r ≡ withinLimits (merge l m)
-    within = is ∙ limits-of cards c
+  pub within : (cards : ℕ) → cards ≡ length (placesIn ws (a .cards)) + length (placesIn vs (b .cards)) → (r : Bool)
+      → r ≡ withinCounts (a .names + b .names - 2 - 2) ((a .cards - a .names) + (b .cards - b .names) - 1) cards (length ws + length vs - 3) → r ≡ withinLimits (merge l m)
+  within cards c r is = is ∙ limits-of cards c
 
-    fitted : (x y : Bool) → withinLimits (merge l m) ≡ x → ltb (length space) (length (encode (merge l m))) ≡ y
-        → fittedIn (length space) (merge l m) ≡ (if not x then overLimit else if y then noRoom else oneLibrary (merge l m))
-    fitted x y e h = λ i. if not (e i) then overLimit else if h i then noRoom else oneLibrary (merge l m)
+-- 31
+fitted : (room : ℕ) (l : Library) (x y : Bool) → withinLimits l ≡ x → ltb room (length (encode l)) ≡ y → fittedIn room l ≡ (if not x then overLimit else if y then noRoom else oneLibrary l)
+fitted room l x y e h = λ i. if not (e i) then overLimit else if h i then noRoom else oneLibrary l
 
-    pub limit-answer : r ≡ false → Answers (fittedIn (length space) (merge l m)) space space Limit
-    limit-answer e =
-        subst (λ (x : Merging). Answers x space space Limit) (sym (fitted false (ltb (length space) (length (encode (merge l m)))) (sym within ∙ e) refl)) (record { answer = refl; written = refl })
+pub limit-answer : (space : List ℕ) (l : Library) → withinLimits l ≡ false → Answers (fittedIn (length space) l) space space Limit
+limit-answer space l e =
+    subst (λ (x : Merging). Answers x space space Limit) (sym (fitted (length space) l false (ltb (length space) (length (encode l))) e refl)) (record { answer = refl; written = refl })
 
-    pub space-answer : r ≡ true → length space < length ws + length vs - 3 → Answers (fittedIn (length space) (merge l m)) space space Space
-    space-answer e lt =
-        subst (λ (x : Merging). Answers x space space Space)
-        (sym (fitted true true (sym within ∙ e) (lt-ltb (length space) (length (encode (merge l m))) (omega (arith, lt, long-of))))) (record { answer = refl; written = refl })
+-- 32, or the words
+module _ (ws vs space : List ℕ) (l m : Library) (p : check ws ≡ good l) (q : check vs ≡ good m) (n : sharedName l m ≡ none) (t : withinLimits (merge l m) ≡ true) where
+  pub space-answer : length space < length ws + length vs - 3 → Answers (fittedIn (length space) (merge l m)) space space Space
+  space-answer lt =
+      subst (λ (x : Merging). Answers x space space Space)
+      (sym (fitted (length space) (merge l m) true true t (lt-ltb (length space) (length (encode (merge l m))) (omega (arith, lt, long-of ws vs l m p q))))) (record { answer = refl; written = refl })
 
-    pub done-answer : r ≡ true → length ws + length vs - 3 ≤ length space → sharedName l m ≡ none → (new : List ℕ) → new ≡ mergedWords ws vs ++ drop (length (mergedWords ws vs)) space
-        → Answers (fittedIn (length space) (merge l m)) space new (Done (length ws + length vs - 3))
-    done-answer e le n new w =
-        let s : T (withinLimits (merge l m)) = true-T (withinLimits (merge l m)) (sym within ∙ e) in
-        let k : Mergeable l m = record { first = read-sound ws l p; second = read-sound vs m q; apart = n; limits = s } in
-        let words : mergedWords ws vs ≡ encode (merge l m) = words-merged ws vs l m p q k in
-        subst (λ (x : Merging). Answers x space new (Done (length ws + length vs - 3)))
-        (sym (fitted true false (sym within ∙ e) (le-ltb (length space) (length (encode (merge l m))) (omega (arith, le, long-of)))))
-        (record { answer = ap Done long-of; written = w ∙ ap (λ (x : List ℕ). x ++ drop (length x) space) words })
+  pub done-answer : length ws + length vs - 3 ≤ length space → (new : List ℕ) → new ≡ mergedWords ws vs ++ drop (length (mergedWords ws vs)) space
+      → Answers (fittedIn (length space) (merge l m)) space new (Done (length ws + length vs - 3))
+  done-answer le new w =
+      let s : T (withinLimits (merge l m)) = true-T (withinLimits (merge l m)) t in
+      let k : Mergeable l m = record { first = read-sound ws l p; second = read-sound vs m q; apart = n; limits = s } in
+      let words : mergedWords ws vs ≡ encode (merge l m) = words-merged ws vs l m p q k in
+      subst (λ (x : Merging). Answers x space new (Done (length ws + length vs - 3)))
+      (sym (fitted (length space) (merge l m) true false t (le-ltb (length space) (length (encode (merge l m))) (omega (arith, le, long-of ws vs l m p q)))))
+      (record { answer = ap Done (long-of ws vs l m p q); written = w ∙ ap (λ (x : List ℕ). x ++ drop (length x) space) words })
 
--- 37
-module _ (ws vs space : List ℕ) (l m : Library) (p : check ws ≡ good l) (q : check vs ≡ good m) (r : Found)
-    (is : r ≡ found (placeFrom (isShared (directoryOf ws)) 2 (directoryOf vs))) where
-  name-of : found (placeFrom (isShared (directoryOf ws)) 2 (directoryOf vs)) ≡ found (sharedName l m)
-  name-of = ap₂ (λ (x y : List ℕ). found (placeFrom (isShared x) 2 y)) (directory-of ws l p) (directory-of vs m q)
+-- 37, ahead of them: a name stands at word 2 or beyond
+module _ (ws vs space : List ℕ) (l m : Library) (p : check ws ≡ good l) (q : check vs ≡ good m) (r : ℕ)
+    (is : r ≡ orNone (placeFrom (isShared (directoryOf ws)) 2 (directoryOf vs))) where
+  name-of : r ≡ orNone (sharedName l m)
+  name-of = is ∙ ap₂ (λ (x y : List ℕ). orNone (placeFrom (isShared x) 2 y)) (directory-of ws l p) (directory-of vs m q)
 
-  pub shared-answer : (n : ℕ) → r ≡ At n → Answers (fromShared (length space) l m (sharedName l m)) space space (Shared n)
-  shared-answer n e = go (sharedName l m) (sym name-of ∙ sym is ∙ e)
+  pub shared-answer : (r ≡ 0 → ⊥) → Answers (fromShared (length space) l m (sharedName l m)) space space (Shared r)
+  shared-answer d = go (sharedName l m) name-of
     where
-      go : (o : Option ℕ) → found o ≡ At n → Answers (fromShared (length space) l m o) space space (Shared n)
-      go none h = absurd (let z : _≡_ {A = ℕ} 0 1 = cc in omega arith)
-      go (some k) h = let j : k ≡ n = cc in record { answer = ap Shared (sym j); written = refl }
+      go : (o : Option ℕ) → r ≡ orNone o → Answers (fromShared (length space) l m o) space space (Shared r)
+      go none h = absurd (d h)
+      go (some k) h = record { answer = ap Shared h; written = refl }
 
-  pub apart-answer : r ≡ Nothing → (new : List ℕ) (t : Merged) → (sharedName l m ≡ none → Answers (fittedIn (length space) (merge l m)) space new t)
+  none-shared : r ≡ 0 → sharedName l m ≡ none
+  none-shared e = go (sharedName l m) refl
+    where
+      go : (o : Option ℕ) → sharedName l m ≡ o → sharedName l m ≡ none
+      go none h = h
+      go (some k) h = absurd (omega (arith, e, name-of ∙ ap orNone h, placed-within (isShared (l .directory)) 2 (m .directory) k h .0))
+
+  pub apart-answer : r ≡ 0 → (new : List ℕ) (t : Merged) → (sharedName l m ≡ none → Answers (fittedIn (length space) (merge l m)) space new t)
       → Answers (fromShared (length space) l m (sharedName l m)) space new t
-  apart-answer e new t h = go (sharedName l m) (sym name-of ∙ sym is ∙ e) h
-    where
-      go : (o : Option ℕ) → found o ≡ Nothing → (o ≡ none → Answers (fittedIn (length space) (merge l m)) space new t) → Answers (fromShared (length space) l m o) space new t
-      go none u k = k refl
-      go (some j) u k = absurd (let z : _≡_ {A = ℕ} 0 1 = cc in omega arith)
+  apart-answer e new t h =
+      let n = none-shared e in
+      subst (λ (o : Option ℕ). Answers (fromShared (length space) l m o) space new t) (sym n) (h n)
 
 -- THE CHECKS
 module _ (ws vs space : List ℕ) where

@@ -1,19 +1,16 @@
--- The first entry of the second whose name the first has: those passed have none.
---   shared-none, shared-some     an entry
---   place-here, place-on, place-end     the search
-use Prim.Native.Nat.{ℕ, zero, suc, _+_, _<_, _≤_}
+-- An entry of the second whose name the first has.
+--   entry-purged, entry-named, bounded     its number there
+--   shared-none, shared-some               whether it has one
+use Prim.Native.Nat.{ℕ, _≤_}
 use native.Mathlib.Omega.{arith}
 use native.Mathlib.Decide.{ℕ-discrete}
-use native.Mathlib.Numerals.{add-one}
-use mathlib.Core.Path.{_≡_, refl, sym, ap, ap₂, _∙_}
+use mathlib.Core.Path.{_≡_, refl, ap, _∙_}
 use mathlib.Core.Bool.{Bool, true, false, _&&_, not}
-use mathlib.Core.List.{List, [], _∷_}
-use mathlib.Core.Option.{Option, none, some}
+use mathlib.Core.List.{List}
 use borrow.Author.Tests.{eq-eqb, ne-eqb}
 use lib.Dec.{T, eqb}
-use lib.ListN.{length, getD, drop, drop-of-length-le}
-use lib.Seq.{drop-cons}
-use Rattle.words.specs.Base.{if_then_else_, member, placeFrom}
+use lib.ListN.{length}
+use Rattle.words.specs.Base.{if_then_else_, member}
 use Rattle.words.proofs.Tests.{T-true}
 use Rattle.library.specs.Library.{purged, entryOf}
 use Rattle.library.proofs.Anys.{bool-iff}
@@ -23,7 +20,6 @@ use Rattle.entries.specs.Names.{Knows, entryBy}
 use Rattle.merge_meaning.specs.Merge.{isShared}
 use Rattle.merge.specs.Words.{sharedEntry}
 
--- AN ENTRY
 module _ (directory : List ℕ) (w : ℕ) where
   pub entry-purged : w ≡ purged → 0 ≡ sharedEntry directory w
   unfolding sharedEntry
@@ -68,16 +64,3 @@ module _ (directory : List ℕ) (w : ℕ) where
       go : (b : Bool) → ((if b then 0 else entryOf directory w) ≡ 0 → ⊥) → (member w directory && not b) ≡ true
       go true h = absurd (h refl)
       go false h = ap (λ (b : Bool). b && true) (T-true (member w directory) (entry-some directory w (omega (arith, h)) .0))
-
--- THE SEARCH
-module _ (p : ℕ → Bool) (xs : List ℕ) (i : ℕ) where
-  pub place-here : i < length xs → p (getD xs i 0) ≡ true → placeFrom p (2 + i) (drop i xs) ≡ some (2 + i)
-  place-here h t = rw (drop-cons xs i 0 h, t)
-
-  pub place-on : i < length xs → p (getD xs i 0) ≡ false → placeFrom p (2 + i) (drop i xs) ≡ placeFrom p (2 + (i + 1)) (drop (i + 1) xs)
-  place-on h t =
-      let e : suc (2 + i) ≡ 2 + (i + 1) = omega arith in
-      rw (drop-cons xs i 0 h, t) (ap₂ (λ (n j : ℕ). placeFrom p n (drop j xs)) e (sym (add-one i)))
-
-  pub place-end : length xs ≤ i → placeFrom p (2 + i) (drop i xs) ≡ none
-  place-end h = rw (drop-of-length-le xs h)

@@ -1,17 +1,19 @@
 -- THE CODE'S. A merged image by the words of the two, and what each part of the code answers.
 --   places in an image       Parts, partsOf, Parted
 --   the merged words         yanksIn, decksIn, headerOf, tablesOf, cardsOf, mergedWords
---   a common name            sharedEntry
+--   a common name            sharedEntry, orNone
 --   words put into a space   putAt, raisedPart
---   the answer               Answers, MergesSound, MergesApart
+--   the answer               Answers, WithinBoth, MergesSound, MergesApart
 use Prim.Native.Nat.{ℕ, _+_, _-_, _^_, _≤_, _<_}
 use mathlib.Core.Path.{_≡_}
+use mathlib.Core.Bool.{Bool, true}
 use mathlib.Core.List.{List, [], _∷_, _++_}
-use mathlib.Core.Option.{none}
+use mathlib.Core.Option.{Option, none, some}
 use lib.Dec.{eqb}
 use lib.ListN.{length, getD, take, drop}
 use Rattle.words.specs.Base.{if_then_else_}
 use Rattle.library.specs.Library.{Library, purged, entryOf}
+use Rattle.library.specs.Image.{withinLimits}
 use Rattle.library.specs.Check.{directoryCount, deckCount, directoryOf, deckWordsOf, cardsPlace, good, check}
 use Rattle.library_raise.specs.Raised.{raisedWords}
 use Rattle.decks.specs.Decks.{deckEnd}
@@ -62,6 +64,11 @@ mergedWords ws vs = tablesOf ws vs ++ cardsOf ws vs
 unfoldable pub sharedEntry : List ℕ → ℕ → ℕ
 sharedEntry directory w = if eqb w purged then 0 else entryOf directory w
 
+-- a place, or 0 for none: word 0 of an image is the header's
+abbrev pub orNone : Option ℕ → ℕ
+orNone none = 0
+orNone (some p) = p
+
 -- WORDS PUT INTO A SPACE, from a place on
 abbrev pub putAt : ℕ → List ℕ → List ℕ → List ℕ
 putAt at xs space = (take at space ++ xs) ++ drop (at + length xs) space
@@ -70,15 +77,18 @@ putAt at xs space = (take at space ++ xs) ++ drop (at + length xs) space
 abbrev pub raisedPart : ℕ → ℕ → ℕ → List ℕ → List ℕ
 raisedPart from to n space = take from space ++ (raisedWords n (take (to - from) (drop from space)) ++ drop to space)
 
--- THE ANSWER and the space: of two libraries that were read, and where no name is common
+-- THE ANSWER and the space: of two libraries that were read; whether they are within the limits; and where they are and no name is common
 pub record Answers (m : Merging) (space new : List ℕ) (r : Merged) : Type 0 where
   pub answer : r ≡ merged m
   pub written : new ≡ mergeInto m space
+
+abbrev pub WithinBoth : List ℕ → List ℕ → Bool → Type 0
+WithinBoth ws vs r = (l m : Library) → check ws ≡ good l → check vs ≡ good m → r ≡ withinLimits (merge l m)
 
 abbrev pub MergesSound : List ℕ → List ℕ → List ℕ → List ℕ → Merged → Type 0
 MergesSound ws vs space new r = (l m : Library) → check ws ≡ good l → check vs ≡ good m
     → Answers (fromShared (length space) l m (sharedName l m)) space new r
 
 abbrev pub MergesApart : List ℕ → List ℕ → List ℕ → List ℕ → Merged → Type 0
-MergesApart ws vs space new r = (l m : Library) → check ws ≡ good l → check vs ≡ good m → sharedName l m ≡ none
+MergesApart ws vs space new r = (l m : Library) → check ws ≡ good l → check vs ≡ good m → sharedName l m ≡ none → withinLimits (merge l m) ≡ true
     → Answers (fittedIn (length space) (merge l m)) space new r

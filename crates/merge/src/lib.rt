@@ -13,7 +13,7 @@ ghost use mathlib.Core.Path.{_≡_};
 ghost use lib.ListN.{length};
 ghost use Rattle.library.specs.Readable.{Readable};
 ghost use Rattle.merge_meaning.specs.Merge.{merging, merged, mergeInto};
-ghost use Rattle.merge.specs.Words.{Parted, MergesSound, MergesApart};
+ghost use Rattle.merge.specs.Words.{Parted, WithinBoth, MergesSound, MergesApart};
 use crate::counted::count_cards;
 use crate::names::shared_name;
 use crate::parts::Parts;
@@ -21,21 +21,26 @@ use crate::parts::parts_of;
 use crate::put::TWICE;
 use crate::put::put_merged;
 use library::Checked;
-use library::Found;
 use tables::DIRECTORY;
 
-// Where no name is common.
-fn merge_apart(first: &[u64], a: Parts, second: &[u64], b: Parts, space: &mut [u64]) -> Merged
+// Whether the two together pass no limit.
+fn within_both(first: &[u64], a: Parts, second: &[u64], b: Parts) -> bool
     requires { ⌜ Parted (now first) a × Parted (now second) b ⌝ }
-    ensures { λ r. ⌜ MergesApart (now (first .entry)) (now (second .entry)) (now (space .entry)) (now (space .exit)) r ⌝ }
+    ensures { λ r. ⌜ WithinBoth (now (first .entry)) (now (second .entry)) r ⌝ }
 {
     let words = first.len() + second.len() - TWICE;
     let entries = a.names + b.names - DIRECTORY - DIRECTORY;
     let decks = (a.cards - a.names) + (b.cards - b.names) - 1;
     let cards = count_cards(first, a.cards) + count_cards(second, b.cards);
-    if !library::within_limits(entries, decks, cards, words) {
-        return Merged::Limit;
-    }
+    library::within_limits(entries, decks, cards, words)
+}
+
+// Where no name is common and no limit is passed.
+fn merge_apart(first: &[u64], a: Parts, second: &[u64], b: Parts, space: &mut [u64]) -> Merged
+    requires { ⌜ Parted (now first) a × Parted (now second) b ⌝ }
+    ensures { λ r. ⌜ MergesApart (now (first .entry)) (now (second .entry)) (now (space .entry)) (now (space .exit)) r ⌝ }
+{
+    let words = first.len() + second.len() - TWICE;
     if space.len() < words {
         return Merged::Space;
     }
@@ -52,10 +57,15 @@ fn merge_sound(first: &[u64], second: &[u64], space: &mut [u64]) -> Merged
     let b = parts_of(second);
     let names = a.names;
     let others = b.names;
-    match shared_name(&first[DIRECTORY..names], &second[DIRECTORY..others]) {
-        Found::At(p) => Merged::Shared(p),
-        Found::Nothing => merge_apart(first, a, second, b, space),
+    let shared = shared_name(&first[DIRECTORY..names], &second[DIRECTORY..others]);
+    let within = within_both(first, a, second, b);
+    if shared != 0 {
+        return Merged::Shared(shared);
     }
+    if !within {
+        return Merged::Limit;
+    }
+    merge_apart(first, a, second, b, space)
 }
 
 // The first library followed by the second, in the space; a refusal leaves the space as it was.

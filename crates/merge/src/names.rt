@@ -4,11 +4,9 @@ ghost use Prim.Native.Nat.{_≤_};
 ghost use lib.ListN.{length};
 ghost use Rattle.words.specs.Base.{placeFrom};
 ghost use Rattle.entries.specs.Names.{Knows};
-ghost use Rattle.tables.specs.Found.{found};
 ghost use Rattle.merge_meaning.specs.Merge.{isShared};
-ghost use Rattle.merge.specs.Words.{sharedEntry};
+ghost use Rattle.merge.specs.Words.{sharedEntry, orNone};
 use entries::ALL_WAYS;
-use library::Found;
 use tables::DIRECTORY;
 use tables::PURGED;
 
@@ -23,24 +21,24 @@ fn shared_entry(first: &[u64], ways: &[u16; ALL_WAYS], w: u64) -> usize
     entries::entry_by(first, ways, w)
 }
 
-// Where the second has the first such name: its word, counted from 0.
-fn shared_by(first: &[u64], ways: &[u16; ALL_WAYS], second: &[u64]) -> Found
+// Where the second has the first such name: its word, counted from 0, which is none of the header's; 0 where it has none.
+fn shared_by(first: &[u64], ways: &[u16; ALL_WAYS], second: &[u64]) -> usize
     requires { ⌜ Knows (now first) (now ways) ⌝ }
-    ensures { λ r. ⌜ r ≡ found (placeFrom (isShared (now (first .entry))) 2 (now (second .entry))) ⌝ }
+    ensures { λ r. ⌜ r ≡ orNone (placeFrom (isShared (now (first .entry))) 2 (now (second .entry))) ⌝ }
 {
     let mut i: usize = 0;
     while i < second.len() {
         let n = shared_entry(first, ways, second[i]);
         if n != 0 {
-            return Found::At(DIRECTORY + i);
+            return DIRECTORY + i;
         }
         i += 1;
     }
-    Found::Nothing
+    0
 }
 
-pub(crate) fn shared_name(first: &[u64], second: &[u64]) -> Found
-    ensures { λ r. ⌜ r ≡ found (placeFrom (isShared (now (first .entry))) 2 (now (second .entry))) ⌝ }
+pub(crate) fn shared_name(first: &[u64], second: &[u64]) -> usize
+    ensures { λ r. ⌜ r ≡ orNone (placeFrom (isShared (now (first .entry))) 2 (now (second .entry))) ⌝ }
 {
     let mut ways = [0u16; ALL_WAYS];
     entries::plant(first, &mut ways);

@@ -1,12 +1,13 @@
 -- The entries passed are none of the first's.
-use Prim.Native.Nat.{_+_, _-_, _≤_}
+use Prim.Native.Nat.{ℕ, _+_, _-_, _≤_}
 use native.Mathlib.Omega.{arith}
 use mathlib.Core.Path.{_≡_, refl, sym, ap, _∙_}
 use lib.ListN.{length, getD, drop}
 use Rattle.words.specs.Base.{placeFrom}
-use Rattle.tables.specs.Found.{found}
 use Rattle.merge_meaning.specs.Merge.{isShared}
-use Rattle.merge.proofs.Sharing.{shared-none, shared-some, place-here, place-on, place-end}
+use Rattle.library.proofs.Searching.{place-here, place-on, place-none}
+use Rattle.merge.specs.Words.{orNone}
+use Rattle.merge.proofs.Sharing.{shared-none, shared-some}
 use borrow.Author.Needs.{needs}
 use Rattle.merge.proofs.names.shared_by.Statement.{statement}
 use Rattle.merge.proofs.names.shared_by.Tie as tie
@@ -32,8 +33,8 @@ shared-slice-read-shared-entry c = search needs
 shared-entry-requires : tie.Need-shared-entry-requires Inv-loop μ-loop
 shared-entry-requires c κs = search needs
 
-add-t10 : tie.Need-add-t10 Inv-loop μ-loop
-add-t10 c = search needs
+add-result : tie.Need-add-result Inv-loop μ-loop
+add-result c = search needs
 
 returns : tie.Need-returns Inv-loop μ-loop
 returns c =
@@ -41,7 +42,7 @@ returns c =
     let l = c .before .before .before .before .loop in
     let low = c .before .before .before .loop-test .taken in
     let some = shared-some (a .first .now) (getD (a .second .now) (l .i) 0) (λ e. c .if1 .taken (c .before .shared-entry .ensures .0 ∙ e)) in
-    sym (ap found (l .inv .1 ∙ place-here (isShared (a .first .now)) (a .second .now) (l .i) low some))
+    sym (ap orNone (l .inv .1 ∙ place-here (isShared (a .first .now)) (2 + l .i) (a .second .now) (l .i) low some))
 
 add-i : tie.Need-add-i Inv-loop μ-loop
 add-i c = search needs
@@ -55,13 +56,14 @@ loop-again c =
     let l = c .before .before .before .before .loop in
     let low = c .before .before .before .loop-test .taken in
     let none-here = shared-none (a .first .now) (getD (a .second .now) (l .i) 0) (sym (c .before .shared-entry .ensures .0) ∙ c .if1 .left) in
-    (omega (arith, low), l .inv .1 ∙ place-on (isShared (a .first .now)) (a .second .now) (l .i) low none-here)
+    let next : 2 + l .i + 1 ≡ 2 + (l .i + 1) = omega arith in
+    (omega (arith, low), l .inv .1 ∙ place-on (isShared (a .first .now)) (2 + l .i) (a .second .now) (l .i) low none-here ∙ ap (λ (n : ℕ). placeFrom (isShared (a .first .now)) n (drop (l .i + 1) (a .second .now))) next)
 
 returns-2 : tie.Need-returns-2 Inv-loop μ-loop
 returns-2 c =
     let a = c .before .before .before .before .args in
     let l = c .before .loop in
-    sym (ap found (l .inv .1 ∙ place-end (isShared (a .first .now)) (a .second .now) (l .i) (c .loop-test .left)))
+    sym (ap orNone (l .inv .1 ∙ place-none (isShared (a .first .now)) (2 + l .i) (a .second .now) (l .i) (c .loop-test .left)))
 
 pub shared-by-spec : {M : Type 1} → statement M
 shared-by-spec =
@@ -73,7 +75,7 @@ shared-by-spec =
     mul-shared-entry
     shared-slice-read-shared-entry
     shared-entry-requires
-    add-t10
+    add-result
     returns
     add-i
     loop-less
