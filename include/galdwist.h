@@ -46,7 +46,8 @@ uint64_t galdwist_run(const uint64_t *old, size_t n, const uint8_t *stream, size
 /* The merge: the second library after the first, its numbers in histories raised by the count of the first's directory, written to `space`.
  * 1 to 10 where one is no library, the first ahead of the second; 37 where both have a name; 31 where the two together pass a limit; 32 where
  * the space is too small. `value`: words written; the word at fault for 1 to 10; the word of the second's directory for 37; 0 for 31 and 32.
- * `which`: the library that the word is of, 1 or 2; else 0. merge/Merge.antt: merging, mergedNumber, mergedValue, mergedWhich, mergeInto. */
+ * `which`: the library that the word is of, 1 or 2; else 0.
+ * merge_meaning/Merge.antt: merging, mergedNumber, mergedValue, mergedWhich, mergeInto. */
 uint64_t galdwist_merge(const uint64_t *first, size_t n, const uint64_t *second, size_t k, uint64_t *space, size_t room, uint64_t *value,
                         uint64_t *which);
 
