@@ -1,7 +1,7 @@
 -- 01, "Shown example": the cases (a) to (i) and the compile example, with a dozen more that pin what the example leaves free,
 -- as one statement over one list, which the checker computes.
 --   a case             Case, holds
---   streams            pump, two, three, chain
+--   streams            pump, two, three, chain, chart
 --   the cases          cases
 --   the statement      AllHold
 use Prim.Native.Nat.{ℕ, zero, suc, _+_}
@@ -95,6 +95,10 @@ abbrev pub chain : List String
 chain =
     "*COMDECK C1" ∷ "*CALL C2" ∷ "*CD C2" ∷ "*CALL C3" ∷ "*CD C3" ∷ "*CALL C4" ∷ "*CD C4" ∷ "*CALL C5" ∷ "*CD C5" ∷ "*CALL C6"
     ∷ "*CD C6" ∷ "*CALL C7" ∷ "*CD C7" ∷ "*CALL C8" ∷ "*DECK P" ∷ "*CALL C1" ∷ []
+
+-- every character in the order of the chart, but for the colon, which stands last
+abbrev pub chart : List String
+chart = "*DECK CHART" ∷ "ABCDEFGHIJKLMNOPQRSTUVWXYZ0123456789+-*/()$= ,.#[]%\"_!&'?<>@\\^;:" ∷ []
 
 -- compile lines that several cases share
 abbrev pub lineA : String
@@ -201,6 +205,17 @@ cases =
     ∷ refuses (pump ++ ("*IDENT TWO" ∷ "*DELETE PUMP.1" ∷ [])) 30 8
     -- a correction outside a set
     ∷ refuses ("*DECK P" ∷ "*INSERT P.1" ∷ []) 24 2
+    -- the chart: every character has its code, the colon 0001, and is read back; any other byte has none
+    ∷ gives chart
+    (0o03100503130004003147 ∷ 0o00000000000001000002
+    ∷ 0o03100122240000000000
+    ∷ 0o31011613535353000000 ∷ 0o03100122240000000000
+    ∷ 0o60000002000001200001 ∷ 0o47040503135503100122 ∷ 0o24000000000000000000
+    ∷ 0o60000007000002200001
+    ∷ 0o01020304050607101112 ∷ 0o13141516172021222324 ∷ 0o25262730313233343536 ∷ 0o37404142434445464750
+    ∷ 0o51525354555657606162 ∷ 0o63646566677071727374 ∷ 0o75767700010000000000 ∷ [])
+    ∷ compiles chart ("ABCDEFGHIJKLMNOPQRSTUVWXYZ0123456789+-*/()$= ,.#[]%\"_!&'?<>@\\^;:         CHART           2" ∷ []) 0
+    ∷ refuses ("*DECK P" ∷ "A" ∷ "a" ∷ []) 20 3
     ∷ []
 
 unfoldable pub AllHold : Type 0

@@ -80,15 +80,35 @@ fn put_letters(word: u64, letters: &mut [u8]) -> usize
     n
 }
 
+// The word that a word's letters make. Their codes stand in it, so that the chart is not asked.
+fn word_again(word: u64) -> u64
+    ensures { λ r. ⌜ r ≡ wordOfName (nameOf word) ⌝ }
+{
+    let mut w = 0;
+    let mut i = 0;
+    while i < TEN {
+        let c = code_in(word, i);
+        if c == COLON {
+            return w * power(TEN - i);
+        }
+        if c >= GAP {
+            return 0;
+        }
+        w = w * BASE + wide(c);
+        i += 1;
+    }
+    0
+}
+
 pub fn name_of_word(word: u64, name: &mut [u8; NAME]) -> usize
     ensures { λ r. ⌜ r ≡ nameLength word ⌝ }
     ensures { λ _. ⌜ now (name .exit) ≡ nameInto word (now (name .entry)) ⌝ }
 {
-    let mut letters = [0u8; TEN];
-    let n = put_letters(word, &mut letters);
-    if word_of_name(&letters[..n]) != word {
+    if word_again(word) != word {
         return 0;
     }
+    let mut letters = [0u8; TEN];
+    let n = put_letters(word, &mut letters);
     put_bytes(&letters[..n], name, 0);
     n
 }

@@ -1,16 +1,16 @@
 -- The chart read both ways: each rule is one test that antt computes over the whole chart. Assumes nothing.
-use Prim.Native.Nat.{ℕ, suc, _-_, _*_, _/_, _%_, _^_, _≤_, _<_}
+use Prim.Native.Nat.{ℕ, suc, _+_, _-_, _≤_, _<_}
 use native.Mathlib.Omega.{arith}
 use native.Mathlib.Decide.{decLt}
-use mathlib.Core.Path.{_≡_, refl, ap, _∙_}
-use mathlib.Core.Bool.{Bool, true, false, _||_, not}
+use mathlib.Core.Path.{_≡_, refl}
+use mathlib.Core.Bool.{Bool, true, false, _&&_, _||_, not}
 use mathlib.Core.List.{List, [], _∷_}
 use borrow.Author.Tests.{ne-eqb, le-ltb}
-use lib.Dec.{T, eqb, eqb→eq, ltb, ltb→lt}
+use lib.Dec.{T, eqb, eqb→eq, ltb, ltb→lt, leb, leb→le}
 use lib.ListN.{getD}
 use Rattle.words.specs.Base.{all}
-use Rattle.words.specs.Display.{chart, codeFrom, codeOf, inChart, letter, lettersAt, codesAt, blank}
-use Rattle.words.proofs.Tests.{and-left, and-right}
+use Rattle.words.specs.Display.{chart, codeFrom, codeOf, inChart, letter, blank}
+use Rattle.words.proofs.Tests.{T-true, and-left, and-right}
 use Rattle.words.proofs.Table.{below}
 
 -- a byte above all of a list has no place in it
@@ -28,25 +28,27 @@ pub code-under : (b : ℕ) → b < 32 → codeOf b ≡ 64
 unfolding codeOf
 code-under b h = eqb→eq (codeOf b) 64 (below (λ k. eqb (codeOf k) 64) 32 b tt h)
 
-abbrev coded : ℕ → ℕ
-coded b = codesAt ((b - 32) / 8) / 2 ^ (b % 8 * 8) % 256
+-- the set is the bytes from 32 to 95
+pub set-under : (b : ℕ) → b < 32 → inChart b ≡ false
+set-under b h = rw (code-under b h)
 
-abbrev right-code : ℕ → Bool
-right-code b = ltb b 32 || eqb (coded b) (codeOf b)
+pub set-above : (b : ℕ) → 95 < b → inChart b ≡ false
+set-above b h = rw (code-outside b h)
 
-pub code-among : (b x : ℕ) → 32 ≤ b → b < 96 → x ≡ codesAt ((b - 32) / 8) → x / 2 ^ (b % 8 * 8) % 256 ≡ codeOf b
-unfolding codesAt codeOf
-code-among b x h l is =
-    ap (λ (i : ℕ). i / 2 ^ (b % 8 * 8) % 256) is
-    ∙ eqb→eq (coded b) (codeOf b) (rw (le-ltb b 32 h) at (below right-code 96 b tt l))
+pub set-inside : (b : ℕ) → 32 ≤ b → b ≤ 95 → inChart b ≡ true
+unfolding codeOf
+set-inside b l h = T-true (inChart b) (rw (le-ltb b 32 l) at (below (λ k. ltb k 32 || inChart k) 96 b tt (omega arith)))
 
-abbrev among : ℕ → ℕ
-among c = lettersAt (c / 8) / 2 ^ (c % 8 * 8) % 256
+-- a stretch of the chart: f counts on from `to` over the places from `first` on
+abbrev pub counts : (ℕ → ℕ) → ℕ → ℕ → ℕ → Bool
+counts f first to x = leb first x && eqb (x - first + to) (f x)
 
-pub letter-among : (c x : ℕ) → c < 64 → x ≡ lettersAt (c / 8) → x / 2 ^ (c % 8 * 8) % 256 ≡ letter c
-unfolding lettersAt letter
-letter-among c x h is =
-    ap (λ (i : ℕ). i / 2 ^ (c % 8 * 8) % 256) is ∙ eqb→eq (among c) (letter c) (below (λ k. eqb (among k) (letter k)) 64 c tt h)
+module _ (f : ℕ → ℕ) (first to x : ℕ) (t : T (counts f first to x)) where
+  pub counts-from : first ≤ x
+  counts-from = leb→le first x (and-left (leb first x) (eqb (x - first + to) (f x)) t)
+
+  pub counts-is : x - first + to ≡ f x
+  counts-is = eqb→eq (x - first + to) (f x) (and-right (leb first x) (eqb (x - first + to) (f x)) t)
 
 pub code-letter : (c : ℕ) → c < 64 → codeOf (letter c) ≡ c
 unfolding codeOf letter

@@ -1,19 +1,21 @@
 -- A name's word from its letters, and a word's letters. Assumes nothing.
-use Prim.Native.Nat.{ℕ, suc, _+_, _-_, _*_, _/_, _%_, _^_, _≤_, _<_}
+use Prim.Native.Nat.{ℕ, zero, suc, _+_, _-_, _*_, _/_, _%_, _^_, _≤_, _<_}
 use native.Mathlib.Omega.{arith}
 use native.Mathlib.Numerals.{add-one}
 use mathlib.Core.Path.{_≡_, refl, sym, ap, _∙_, subst}
 use mathlib.Core.Bool.{Bool, true, false, _&&_, not}
 use mathlib.Core.List.{List, [], _∷_, _++_, append-assoc, append-nil, map}
 use borrow.Author.Tests.{lt-ltb, le-ltb, le-leb, lt-leb, eq-eqb, ne-eqb}
-use lib.Dec.{T, eqb, leb, leb→le}
-use lib.ListN.{length, getD, take, drop, set, drop-of-length-le}
+use lib.Dec.{T, eqb, ltb, leb, leb→le}
+use lib.ListN.{length, getD, take, drop, set, drop-of-length-le, length-drop}
 use lib.Seq.{drop-cons, take-suc-set}
 use Rattle.words.specs.Base.{if_then_else_, all, isNil, takeUntil}
 use Rattle.words.specs.Display.{codeOf, letter}
 use Rattle.words.specs.Text.{lowCodes}
 use Rattle.words.specs.Names.{isNameByte, isName, packCodes, nameWord, nameOf, isNameWord, wordOfName, nameLength, nameInto}
 use Rattle.words.proofs.Tests.{true-T, and-left, and-right}
+use Rattle.words.proofs.Charted.{code-letter}
+use Rattle.words.proofs.Powers.{power-in}
 use Rattle.words.proofs.Reading.{word-at, length-low}
 
 -- A NAME OR NONE
@@ -43,8 +45,13 @@ unfolding isName
 many-letters [] h = absurd (omega arith)
 many-letters (b ∷ bs) h = let e : isName (b ∷ bs) ≡ false = rw (lt-leb (suc (length bs)) 9 h) in sym (none-of (b ∷ bs) e)
 
-pub other-letter : (n : List ℕ) → 0 < length n → length n ≤ 9 → all isNameByte n ≡ false → 0 ≡ wordOfName n
-other-letter n some few e = sym (none-of n (name-if n false some few e))
+pub other-letter : (n : List ℕ) → all isNameByte n ≡ false → 0 ≡ wordOfName n
+unfolding isName
+other-letter n e = sym (none-of n (rw e (go (not (isNil n) && leb (length n) 9))))
+  where
+    go : (c : Bool) → (c && false) ≡ false
+    go true = refl
+    go false = refl
 
 pub letter-low : (b c : ℕ) → c ≡ codeOf b → c ≤ 0 → isNameByte b ≡ false
 letter-low b c e h = rw (← e, le-ltb 0 c h)
@@ -75,6 +82,13 @@ pub record Packed (n : List ℕ) (w i : ℕ) : Type 0 where
   pub below : w < 64 ^ i
   pub good : all isNameByte (drop i n) ≡ all isNameByte n
   pub owed : packCodes w (10 - i) (drop i n) ≡ packCodes 0 10 n
+
+-- none left: the word so far, shifted to its place, whose value is x
+pub packed-end : (n : List ℕ) (w i x : ℕ) → Packed n w i → length n ≤ i → i < 10 → x ≡ (if ltb (10 - i) 10 then 64 ^ (10 - i) else 0) → w * x ≡ wordOfName n
+packed-end n w zero x p over few is = let z : w * 0 ≡ 0 = omega arith in ap (λ (y : ℕ). w * y) is ∙ z ∙ no-letters n (omega arith)
+packed-end n w (suc i) x p over few is =
+    let e : x ≡ 64 ^ (10 - suc i) = power-in (10 - suc i) is (omega arith) in
+    rw e (pack-end n w (suc i) (omega (arith, p .inside)) (omega arith) over (p .good) (p .owed))
 
 -- A WORD'S LETTERS
 abbrev cut : List ℕ → List ℕ
@@ -108,6 +122,37 @@ pub spelt-end : (w i : ℕ) (d : List ℕ) → 10 ≤ i → Spelt w d i ≡ take
 spelt-end w i d h =
     let out : length (lowCodes 10 w []) ≤ i = omega (arith, length-low 10 w []) in
     rw (drop-of-length-le (lowCodes 10 w []) out) (append-nil (take i d))
+
+-- what is left of a word's letters from place i on is what is left of its codes
+abbrev pub Left : ℕ → ℕ → Type 0
+Left w i = drop i (nameOf w) ≡ cut (drop i (lowCodes 10 w []))
+
+pub left-start : (w : ℕ) → Left w 0
+unfolding nameOf
+left-start w = refl
+
+module _ (w i c : ℕ) (few : i < 10) (is : c ≡ w / 64 ^ (9 - i) % 64) (l : Left w i) where
+  left-codes : drop i (nameOf w) ≡ cut (c ∷ drop (suc i) (lowCodes 10 w []))
+  left-codes = rw (drop-cons (lowCodes 10 w []) i 0 (inside w i c few is), code-is w i c few is) at l
+
+  pub left-none : c ≡ 0 → length (nameOf w) ≤ i
+  left-none z = let e : length (drop i (nameOf w)) ≡ 0 = ap length (rw z at left-codes) in omega (arith, length-drop i (nameOf w))
+
+  module _ (some : c ≡ 0 → ⊥) where
+    left-one : drop i (nameOf w) ≡ letter c ∷ cut (drop (suc i) (lowCodes 10 w []))
+    left-one = rw (ne-eqb 0 c (λ e. some (sym e))) at left-codes
+
+    pub left-inside : i < length (nameOf w)
+    left-inside = omega (arith, ap length left-one, length-drop i (nameOf w))
+
+    left-parts : getD (nameOf w) i 0 ∷ drop (suc i) (nameOf w) ≡ letter c ∷ cut (drop (suc i) (lowCodes 10 w []))
+    left-parts = sym (drop-cons (nameOf w) i 0 left-inside) ∙ left-one
+
+    pub left-code : c ≡ codeOf (getD (nameOf w) i 0)
+    left-code = sym (ap codeOf (ap (λ (r : List ℕ). getD r 0 0) left-parts) ∙ code-letter c (omega arith))
+
+    pub left-more : Left w (i + 1)
+    left-more = rw add-one (ap (drop 1) left-parts)
 
 -- WHERE A WORD IS A NAME'S
 no-word : (w : ℕ) → (wordOfName (nameOf w) ≡ w → ⊥) → isNameWord w ≡ false

@@ -7,7 +7,7 @@ use lib.Pow.{pow-add, shl-exact}
 use mathlib.Core.Path.{_≡_, refl, sym, ap, _∙_, subst}
 use lib.Dec.{ltb, lit<}
 use borrow.Author.Tests.{lt-ltb}
-use mathlib.Core.Bool.{Bool}
+use mathlib.Core.Bool.{Bool, true, false}
 use Rattle.words.specs.Base.{if_then_else_}
 
 abbrev pub power : ℕ → ℕ
@@ -46,3 +46,11 @@ power-fits w k h l = subst (λ (n : ℕ). w * 64 ^ (10 - k) < n) e (mul-lt-mul-o
 -- of a place that a word has
 pub power-in : (k : ℕ) {r : ℕ} → r ≡ (if ltb k 10 then 64 ^ k else 0) → k < 10 → r ≡ 64 ^ k
 power-in k e h = e ∙ ap (λ (b : Bool). if b then 64 ^ k else 0) (lt-ltb k 10 h)
+
+-- a word so far, shifted by a place value or by the 0 past the tenth place, has room
+pub power-room : (w k r : ℕ) → k ≤ 10 → w < 64 ^ k → r ≡ (if ltb (10 - k) 10 then 64 ^ (10 - k) else 0) → w * r < 2 ^ 64
+power-room w k r h l e = go (ltb (10 - k) 10) e
+  where
+    go : (b : Bool) → r ≡ (if b then 64 ^ (10 - k) else 0) → w * r < 2 ^ 64
+    go true is = rw is (omega (arith, power-fits w k h l))
+    go false is = rw is (omega arith)

@@ -1,7 +1,7 @@
 -- The display code (01, "Text": six-bit display code of the CDC ASCII 64-character set).
---   the chart        chart, codeOf, inChart, letter, lettersAt, codesAt
+--   the chart        chart, codeOf, inChart, letter
 --   named bytes      blank, comma, point, star, slash
-use Prim.Native.Nat.{ℕ, zero, suc, _+_, _*_}
+use Prim.Native.Nat.{ℕ, suc}
 use mathlib.Core.Bool.{Bool, true, false}
 use mathlib.Core.List.{List, [], _∷_}
 use lib.Dec.{eqb, ltb}
@@ -26,22 +26,6 @@ inChart b = ltb (codeOf b) 64
 
 unfoldable pub letter : ℕ → ℕ
 letter c = getD chart c 32
-
--- the letters of n codes from c on in one number, eight bits each, the first lowest
-abbrev pub lettersFrom : ℕ → ℕ → ℕ
-lettersFrom c zero = 0
-lettersFrom c (suc n) = letter c + 256 * lettersFrom (suc c) n
-
-unfoldable pub lettersAt : ℕ → ℕ
-lettersAt k = lettersFrom (8 * k) 8
-
--- the codes of n bytes from b on in one number, likewise
-abbrev pub codesFrom : ℕ → ℕ → ℕ
-codesFrom b zero = 0
-codesFrom b (suc n) = codeOf b + 256 * codesFrom (suc b) n
-
-unfoldable pub codesAt : ℕ → ℕ
-codesAt k = codesFrom (32 + 8 * k) 8
 
 -- bytes that directives are written with
 abbrev pub blank : ℕ

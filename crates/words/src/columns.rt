@@ -4,15 +4,20 @@ ghost use Rattle.words.specs.Base.{all};
 ghost use Rattle.words.specs.Display.{inChart};
 ghost use Rattle.words.specs.Text.{trim};
 use crate::display::BLANK;
-use crate::display::SET;
-use crate::display::code_of;
+
+// The bytes of the set are those from a blank to an underline, so that no code is asked for.
+const LAST: u8 = b'_';
 
 pub fn in_set(line: &[u8]) -> bool
     ensures { λ r. ⌜ r ≡ all inChart (now (line .entry)) ⌝ }
 {
     let mut i = 0;
     while i < line.len() {
-        if SET <= code_of(line[i]) {
+        let b = line[i];
+        if b < BLANK {
+            return false;
+        }
+        if LAST < b {
             return false;
         }
         i += 1;

@@ -37,14 +37,14 @@ returns-3 c =
     let l = c .before .before .before .before .loop in
     let s = c .before .before .before .before .before .before .before .before .args .name .now in
     let bad = letter-low (getD s (l .i) 0) _ (c .before .code-of .ensures) (c .if3 .taken) in
-    other-letter s (omega arith) (omega arith) (sym (l .inv .good) ∙ stops isNameByte s (l .i) (c .before .before .before .loop-test .taken) bad)
+    other-letter s (sym (l .inv .good) ∙ stops isNameByte s (l .i) (c .before .before .before .loop-test .taken) bad)
 
 returns-4 : tie.Need-returns-4 Inv-loop μ-loop
 returns-4 c =
     let l = c .before .before .before .before .before .loop in
     let s = c .before .before .before .before .before .before .before .before .before .args .name .now in
     let bad = letter-high (getD s (l .i) 0) _ (c .before .before .code-of .ensures) (c .if4 .taken) in
-    other-letter s (omega arith) (omega arith) (sym (l .inv .good) ∙ stops isNameByte s (l .i) (c .before .before .before .before .loop-test .taken) bad)
+    other-letter s (sym (l .inv .good) ∙ stops isNameByte s (l .i) (c .before .before .before .before .loop-test .taken) bad)
 
 mul-w : tie.Need-mul-w Inv-loop μ-loop
 mul-w c = omega (arith, power-low (c .before .before .before .before .before .loop .w) (c .before .before .before .before .before .loop .i) 9 (omega arith) (c .before .before .before .before .before .loop .inv .below))

@@ -2,10 +2,10 @@
 use borrow.Author.Needs.{needs}
 use Prim.Native.Nat.{_≤_, _-_}
 use mathlib.Core.Path.{_≡_, sym, refl, _∙_}
-use borrow.Author.Tests.{lt-ltb, le-ltb}
 use lib.ListN.{length, drop}
 use Rattle.words.specs.Base.{all}
 use Rattle.words.specs.Display.{inChart}
+use Rattle.words.proofs.Charted.{set-under, set-above, set-inside}
 use Rattle.words.proofs.Passing.{passes, stops, passed-all}
 use Rattle.words.proofs.columns.in_set.Statement.{statement}
 use Rattle.words.proofs.columns.in_set.Tie as tie
@@ -19,17 +19,20 @@ abbrev μ-loop : tie.MeasureT-loop
 loop-holds : tie.Need-loop-holds Inv-loop μ-loop
 loop-holds c = (search needs, refl)
 
-shared-slice-read-code-of : tie.Need-shared-slice-read-code-of Inv-loop μ-loop
-shared-slice-read-code-of c = search needs
-
-code-of-requires : tie.Need-code-of-requires Inv-loop μ-loop
-code-of-requires c κs = search needs
+shared-slice-read-b : tie.Need-shared-slice-read-b Inv-loop μ-loop
+shared-slice-read-b c = search needs
 
 returns : tie.Need-returns Inv-loop μ-loop
 returns c =
+    let l = c .before .before .before .loop in
+    let s = c .before .before .before .before .args .line .now in
+    sym (sym (l .inv .1) ∙ stops inChart s (l .i) (c .before .before .loop-test .taken) (set-under _ (c .if1 .taken)))
+
+returns-2 : tie.Need-returns-2 Inv-loop μ-loop
+returns-2 c =
     let l = c .before .before .before .before .loop in
-    let s = c .before .before .before .before .before .before .args .line .now in
-    sym (sym (l .inv .1) ∙ stops inChart s (l .i) (c .before .before .before .loop-test .taken) (le-ltb _ 64 (rw (c .before .code-of .ensures) at (c .if1 .taken))))
+    let s = c .before .before .before .before .before .args .line .now in
+    sym (sym (l .inv .1) ∙ stops inChart s (l .i) (c .before .before .before .loop-test .taken) (set-above _ (c .if2 .taken)))
 
 add-i : tie.Need-add-i Inv-loop μ-loop
 add-i c = search needs
@@ -40,25 +43,13 @@ loop-less c = search needs
 loop-again : tie.Need-loop-again Inv-loop μ-loop
 loop-again c =
     let l = c .before .before .before .before .loop in
-    let s = c .before .before .before .before .before .before .args .line .now in
-    (search needs, passes inChart s (l .i) (c .before .before .before .loop-test .taken) (lt-ltb _ 64 (rw (c .before .code-of .ensures) at (c .if1 .left))) ∙ l .inv .1)
+    let s = c .before .before .before .before .before .args .line .now in
+    (search needs, passes inChart s (l .i) (c .before .before .before .loop-test .taken) (set-inside _ (c .before .if1 .left) (c .if2 .left)) ∙ l .inv .1)
 
-returns-2 : tie.Need-returns-2 Inv-loop μ-loop
-returns-2 c =
+returns-3 : tie.Need-returns-3 Inv-loop μ-loop
+returns-3 c =
     let l = c .before .loop in
-    sym (sym (l .inv .1) ∙ passed-all inChart (c .before .before .before .args .line .now) (l .i) (c .loop-test .left))
+    sym (sym (l .inv .1) ∙ passed-all inChart (c .before .before .args .line .now) (l .i) (c .loop-test .left))
 
 pub in-set-spec : {M : Type 1} → statement M
-in-set-spec =
-    tie.close
-    (tie.spec
-    Inv-loop
-    μ-loop
-    loop-holds
-    shared-slice-read-code-of
-    code-of-requires
-    returns
-    add-i
-    loop-less
-    loop-again
-    returns-2)
+in-set-spec = tie.close (tie.spec Inv-loop μ-loop loop-holds shared-slice-read-b returns returns-2 add-i loop-less loop-again returns-3)
