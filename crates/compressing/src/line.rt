@@ -5,6 +5,7 @@ ghost use Prim.Native.Nat.{_+_, _≤_, _<_};
 ghost use lib.ListN.{length, take, drop};
 ghost use Rattle.words.specs.Display.{codeOf};
 ghost use Rattle.words.specs.Text.{shortRun, blanks, sign, squeeze, compress};
+use words::BLANK;
 use words::GAP;
 use words::code_of;
 
@@ -84,7 +85,7 @@ fn put_lead(line: &[u8], codes: &mut [u8]) -> usize
     if line.len() == 0 {
         return 0;
     }
-    if code_of(line[0]) == GAP {
+    if line[0] == BLANK {
         return put_one(GAP, codes, 0);
     }
     0
@@ -101,13 +102,13 @@ pub(crate) fn put_line(line: &[u8], codes: &mut [u8]) -> usize
     let mut i = at;
     let mut n = 0;
     while i < line.len() {
-        let c = code_of(line[i]);
+        let b = line[i];
         i += 1;
-        if c == GAP {
+        if b == BLANK {
             n += 1;
         } else {
             let next = put_blanks(n, codes, at);
-            at = put_sign(c, codes, next);
+            at = put_sign(code_of(b), codes, next);
             n = 0;
         }
     }

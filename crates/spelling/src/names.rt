@@ -2,6 +2,7 @@
 ghost use mathlib.Core.Path.{_≡_};
 ghost use Prim.Native.Nat.{_+_, _-_, _/_, _%_, _^_, _≤_, _<_};
 ghost use lib.ListN.{length, take, drop};
+ghost use mathlib.Core.List.{_++_};
 ghost use Rattle.words.specs.Names.{nameOf, wordOfName, nameLength, nameInto, numberRead, numeral, numberFits, numberInto};
 use crate::columns::put_bytes;
 use crate::columns::put_gap;
@@ -62,19 +63,20 @@ fn code_in(word: u64, place: usize) -> u8
     ((word >> (BITS * (TEN - 1 - place))) % BASE) as u8
 }
 
-// The letters of a word up to its first zero code.
-fn put_letters(word: u64, letters: &mut [u8]) -> usize
-    requires { ⌜ length (now letters) ≡ 10 ⌝ }
-    ensures { λ r. ⌜ r ≤ 10 ⌝ }
-    ensures { λ r. ⌜ take r (now (letters .exit)) ≡ nameOf word ⌝ }
+// The letters of a name's word, up to its first zero code: answers how many they are.
+fn put_letters(word: u64, name: &mut [u8]) -> usize
+    requires { ⌜ length (nameOf word) ≤ 9 ⌝ }
+    requires { ⌜ length (now name) ≡ 9 ⌝ }
+    ensures { λ r. ⌜ r ≡ length (nameOf word) ⌝ }
+    ensures { λ r. ⌜ now (name .exit) ≡ nameOf word ++ drop r (now (name .entry)) ⌝ }
 {
     let mut n = 0;
-    while n < TEN {
+    while n < NAME {
         let c = code_in(word, n);
         if c == 0 {
             return n;
         }
-        letters[n] = letter_of(c);
+        name[n] = letter_of(c);
         n += 1;
     }
     n
@@ -107,10 +109,7 @@ pub fn name_of_word(word: u64, name: &mut [u8; NAME]) -> usize
     if word_again(word) != word {
         return 0;
     }
-    let mut letters = [0u8; TEN];
-    let n = put_letters(word, &mut letters);
-    put_bytes(&letters[..n], name, 0);
-    n
+    put_letters(word, name)
 }
 
 pub fn number_read(digits: &[u8]) -> u64

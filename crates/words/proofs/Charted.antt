@@ -2,11 +2,11 @@
 use Prim.Native.Nat.{ℕ, suc, _+_, _-_, _≤_, _<_}
 use native.Mathlib.Omega.{arith}
 use native.Mathlib.Decide.{decLt}
-use mathlib.Core.Path.{_≡_, refl}
+use mathlib.Core.Path.{_≡_, refl, sym, ap, _∙_}
 use mathlib.Core.Bool.{Bool, true, false, _&&_, _||_, not}
 use mathlib.Core.List.{List, [], _∷_}
 use borrow.Author.Tests.{ne-eqb, le-ltb}
-use lib.Dec.{T, eqb, eqb→eq, ltb, ltb→lt, leb, leb→le}
+use lib.Dec.{T, eqb, eqb→eq, ltb, ltb→lt, lt→ltb, leb, leb→le}
 use lib.ListN.{getD}
 use Rattle.words.specs.Base.{all}
 use Rattle.words.specs.Display.{chart, codeFrom, codeOf, inChart, letter, blank}
@@ -78,6 +78,15 @@ letter-outside c h = beyond chart c 32 64 refl h
   where
     beyond : (xs : List ℕ) (c d n : ℕ) → lib.ListN.length xs ≡ n → n ≤ c → getD xs c d ≡ d
     beyond xs c d n e h = lib.ListN.List·getD-eq-default xs d (omega arith)
+
+-- a blank alone has its code
+pub blank-code : (b : ℕ) → b ≡ blank → codeOf b ≡ 0o55
+unfolding codeOf
+blank-code b e = rw e
+
+pub code-blank : (b : ℕ) → codeOf b ≡ 0o55 → b ≡ blank
+unfolding letter
+code-blank b e = sym (letter-code b (lt→ltb (codeOf b) 64 (omega arith))) ∙ ap letter e
 
 pub blank-in : T (inChart blank)
 unfolding codeOf

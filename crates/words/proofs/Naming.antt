@@ -7,8 +7,8 @@ use mathlib.Core.Bool.{Bool, true, false, _&&_, not}
 use mathlib.Core.List.{List, [], _∷_, _++_, append-assoc, append-nil, map}
 use borrow.Author.Tests.{lt-ltb, le-ltb, le-leb, lt-leb, eq-eqb, ne-eqb}
 use lib.Dec.{T, eqb, ltb, leb, leb→le}
-use lib.ListN.{length, getD, take, drop, set, drop-of-length-le, length-drop}
-use lib.Seq.{drop-cons, take-suc-set}
+use lib.ListN.{length, getD, take, drop, set, drop-of-length-le, length-drop, length-append, take-append-drop}
+use lib.Seq.{drop-cons, take-suc-set, length-take-le}
 use Rattle.words.specs.Base.{if_then_else_, all, isNil, takeUntil}
 use Rattle.words.specs.Display.{codeOf, letter}
 use Rattle.words.specs.Text.{lowCodes}
@@ -118,10 +118,17 @@ module _ (w i c : ℕ) (few : i < 10) (is : c ≡ w / 64 ^ (9 - i) % 64) where
       rw (add-one, drop-cons cs i 0 inside, code-is, ne-eqb 0 c (λ e. z (sym e)), take-suc-set d i (letter c) room)
       (append-assoc (take i d) (letter c ∷ []) (cut (drop (suc i) cs)))
 
-pub spelt-end : (w i : ℕ) (d : List ℕ) → 10 ≤ i → Spelt w d i ≡ take i d
-spelt-end w i d h =
-    let out : length (lowCodes 10 w []) ≤ i = omega (arith, length-low 10 w []) in
-    rw (drop-of-length-le (lowCodes 10 w []) out) (append-nil (take i d))
+-- as many letters put as there are
+pub spelt-full : (w i : ℕ) (d : List ℕ) → i ≤ length d → length (nameOf w) ≤ i → Spelt w d i ≡ nameOf w → take i d ≡ nameOf w
+spelt-full w i d room few e = go (cut (drop i (lowCodes 10 w []))) (omega (arith, ap length e, length-append (take i d) (cut (drop i (lowCodes 10 w []))), length-take-le i d room)) e
+  where
+    go : (r : List ℕ) → length r ≡ 0 → take i d ++ r ≡ nameOf w → take i d ≡ nameOf w
+    go [] z e = sym (append-nil (take i d)) ∙ e
+    go (x ∷ xs) z e = absurd (omega arith)
+
+-- then the space has them, and behind them what it had
+pub spelt-all : (w i : ℕ) (d e : List ℕ) → i ≤ length d → drop i d ≡ drop i e → take i d ≡ nameOf w → (i ≡ length (nameOf w)) × (d ≡ nameOf w ++ drop i e)
+spelt-all w i d e room k s = (sym (length-take-le i d room) ∙ ap length s, sym (take-append-drop i d) ∙ rw (s, k))
 
 -- what is left of a word's letters from place i on is what is left of its codes
 abbrev pub Left : ℕ → ℕ → Type 0

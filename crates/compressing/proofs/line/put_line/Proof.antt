@@ -7,6 +7,7 @@ use mathlib.Core.List.{[]}
 use lib.ListN.{length, getD, length-append}
 use Rattle.words.specs.Display.{codeOf}
 use Rattle.words.specs.Text.{gap, blanks, sign}
+use Rattle.words.proofs.Charted.{blank-code, code-blank}
 use Rattle.words.proofs.Compressing.{length-blanks, length-sign}
 use Rattle.compressing.proofs.Putting.{put-then}
 use Rattle.compressing.proofs.Squeezing.{Squeezed, left-gap, left-sign, left-end}
@@ -25,11 +26,8 @@ put-lead-requires c κs = search needs
 loop-holds : tie.Need-loop-holds Inv-loop μ-loop
 loop-holds c = record { inside = omega arith; long = omega arith; room = omega arith; waiting = omega arith; owed = c .before .before .put-lead .ensures .1 .1 }
 
-shared-slice-read-code-of : tie.Need-shared-slice-read-code-of Inv-loop μ-loop
-shared-slice-read-code-of c = search needs
-
-code-of-requires : tie.Need-code-of-requires Inv-loop μ-loop
-code-of-requires c κs = search needs
+shared-slice-read-b : tie.Need-shared-slice-read-b Inv-loop μ-loop
+shared-slice-read-b c = search needs
 
 add-i : tie.Need-add-i Inv-loop μ-loop
 add-i c = search needs
@@ -42,13 +40,15 @@ loop-less c = search needs
 
 loop-again : tie.Need-loop-again Inv-loop μ-loop
 loop-again c =
-    let l = c .before .before .before .before .loop in
-    let s = c .before .before .before .before .before .before .before .before .before .before .before .args .line .now in
-    let e : codeOf (getD s (l .i) 0) ≡ gap = sym (c .before .code-of .ensures) ∙ c .if1 .taken in
-    record { inside = omega arith; long = omega arith; room = omega arith; waiting = omega arith; owed = left-gap s (l .i) (l .n) (c .before .before .before .loop-test .taken) (l .codes) (l .at) e ∙ l .inv .owed }
+    let l = c .before .before .before .loop in
+    let s = c .before .before .before .before .before .before .before .before .before .before .args .line .now in
+    record { inside = omega arith; long = omega arith; room = omega arith; waiting = omega arith; owed = left-gap s (l .i) (l .n) (c .before .before .loop-test .taken) (l .codes) (l .at) (blank-code (getD s (l .i) 0) (c .if1 .taken)) ∙ l .inv .owed }
 
 put-blanks-requires : tie.Need-put-blanks-requires Inv-loop μ-loop
 put-blanks-requires c κs = (omega arith, omega arith)
+
+code-of-requires : tie.Need-code-of-requires Inv-loop μ-loop
+code-of-requires c κs = search needs
 
 put-sign-requires : tie.Need-put-sign-requires Inv-loop μ-loop
 put-sign-requires c κs = omega (arith, length-blanks (c .before .before .before .before .before .before .before .before .before .loop .n))
@@ -61,12 +61,12 @@ loop-again-2 c =
     let l = c .before .before .before .before .before .before .before .before .before .before .before .before .loop in
     let s = c .before .before .before .before .before .before .before .before .before .before .before .before .before .before .before .before .before .before .before .args .line .now in
     let x = codeOf (getD s (l .i) 0) in
-    let other : (x ≡ gap → ⊥) = λ e. c .before .before .before .before .before .before .before .before .if1 .left (c .before .before .before .before .before .before .before .before .before .code-of .ensures ∙ e) in
-    let is : c .before .before .before .before .before .before .before .before .before .code-of .result ≡ x = c .before .before .before .before .before .before .before .before .before .code-of .ensures in
-    let put = put-then (blanks (l .n)) (sign x []) (l .codes) _ _ (l .at) _ _ (c .before .before .before .before .before .before .put-blanks .ensures) (rw is at (c .before .before .put-sign .ensures)) in
+    let other : (x ≡ gap → ⊥) = λ e. c .before .before .before .before .before .before .before .before .before .if1 .left (code-blank (getD s (l .i) 0) e) in
+    let is : c .before .before .before .before .code-of .result ≡ x = c .before .before .before .before .code-of .ensures in
+    let put = put-then (blanks (l .n)) (sign x []) (l .codes) _ _ (l .at) _ _ (c .before .before .before .before .before .before .before .put-blanks .ensures) (rw is at (c .before .before .put-sign .ensures)) in
     record {
       inside = omega arith;
-      long = omega (arith, c .before .before .before .before .before .before .put-blanks .kept .1 .0, c .before .before .put-sign .kept .1 .0);
+      long = omega (arith, c .before .before .before .before .before .before .before .put-blanks .kept .1 .0, c .before .before .put-sign .kept .1 .0);
       room = omega (arith, put .0, length-append (blanks (l .n)) (sign x []), length-blanks (l .n), length-sign x []);
       waiting = omega arith;
       owed = left-sign s (l .i) (l .n) (c .before .before .before .before .before .before .before .before .before .before .before .loop-test .taken) (l .codes) _ (l .at) _ other put ∙ l .inv .owed;
@@ -88,13 +88,13 @@ put-line-spec =
     μ-loop
     put-lead-requires
     loop-holds
-    shared-slice-read-code-of
-    code-of-requires
+    shared-slice-read-b
     add-i
     add-n
     loop-less
     loop-again
     put-blanks-requires
+    code-of-requires
     put-sign-requires
     loop-less-2
     loop-again-2
