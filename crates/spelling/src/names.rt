@@ -2,8 +2,7 @@
 ghost use mathlib.Core.Path.{_≡_};
 ghost use Prim.Native.Nat.{_+_, _-_, _/_, _%_, _^_, _≤_, _<_};
 ghost use lib.ListN.{length, take, drop};
-ghost use mathlib.Core.List.{_++_};
-ghost use Rattle.words.specs.Names.{nameOf, wordOfName, nameLength, nameInto, numberRead, numeral, numberFits, numberInto};
+ghost use Rattle.words.specs.Names.{wordOfName, nameLength, nameInto, numberRead, numeral, numberFits, numberInto};
 use crate::columns::put_bytes;
 use crate::columns::put_gap;
 use words::BASE;
@@ -11,7 +10,7 @@ use words::BITS;
 use words::GAP;
 use words::TEN;
 use words::code_of;
-use words::letter_of;
+use words::letter_in;
 use words::power;
 use words::wide;
 
@@ -19,6 +18,11 @@ const NAME: usize = 9;
 
 // the codes of a name are above that of the colon and below that of the blank
 const COLON: u8 = 0;
+
+// in a word, the code that ends a name, and the first that no name has
+const END: usize = 0;
+
+const PAST: usize = 0o55;
 
 // the most digits of a number as it is read, the largest, and the most digits of any
 const READ: usize = 6;
@@ -56,60 +60,56 @@ pub fn word_of_name(name: &[u8]) -> u64
     w * power(TEN - i)
 }
 
-fn code_in(word: u64, place: usize) -> u8
+fn code_in(word: u64, place: usize) -> usize
     requires { ⌜ place < 10 ⌝ }
     ensures { λ r. ⌜ r ≡ word / 64 ^ (9 - place) % 64 ⌝ }
 {
-    ((word >> (BITS * (TEN - 1 - place))) % BASE) as u8
+    ((word >> (BITS * (TEN - 1 - place))) % BASE) as usize
 }
 
-// The letters of a name's word, up to its first zero code: answers how many they are.
-fn put_letters(word: u64, name: &mut [u8]) -> usize
-    requires { ⌜ length (nameOf word) ≤ 9 ⌝ }
-    requires { ⌜ length (now name) ≡ 9 ⌝ }
-    ensures { λ r. ⌜ r ≡ length (nameOf word) ⌝ }
-    ensures { λ r. ⌜ now (name .exit) ≡ nameOf word ++ drop r (now (name .entry)) ⌝ }
-{
-    let mut n = 0;
-    while n < NAME {
-        let c = code_in(word, n);
-        if c == 0 {
-            return n;
-        }
-        name[n] = letter_of(c);
-        n += 1;
-    }
-    n
-}
-
-// The word that a word's letters make. Their codes stand in it, so that the chart is not asked.
-fn word_again(word: u64) -> u64
-    ensures { λ r. ⌜ r ≡ wordOfName (nameOf word) ⌝ }
+// How many letters the name has whose word it is; 0 where it is no name's. The letters' codes stand in the word, so that the chart is not asked.
+fn name_length(word: u64) -> usize
+    ensures { λ r. ⌜ r ≡ nameLength word ⌝ }
 {
     let mut w = 0;
     let mut i = 0;
     while i < TEN {
         let c = code_in(word, i);
-        if c == COLON {
-            return w * power(TEN - i);
-        }
-        if c >= GAP {
+        if c == END {
+            if w * power(TEN - i) == word {
+                return i;
+            }
             return 0;
         }
-        w = w * BASE + wide(c);
+        if PAST <= c {
+            return 0;
+        }
+        w = w * BASE + c as u64;
         i += 1;
     }
     0
+}
+
+// The n letters of a name's word.
+fn put_letters(word: u64, n: usize, name: &mut [u8])
+    requires { ⌜ n ≡ nameLength word ⌝ }
+    requires { ⌜ length (now name) ≡ 9 ⌝ }
+    ensures { λ _. ⌜ now (name .exit) ≡ nameInto word (now (name .entry)) ⌝ }
+{
+    let mut i = 0;
+    while i < n {
+        name[i] = letter_in(code_in(word, i));
+        i += 1;
+    }
 }
 
 pub fn name_of_word(word: u64, name: &mut [u8; NAME]) -> usize
     ensures { λ r. ⌜ r ≡ nameLength word ⌝ }
     ensures { λ _. ⌜ now (name .exit) ≡ nameInto word (now (name .entry)) ⌝ }
 {
-    if word_again(word) != word {
-        return 0;
-    }
-    put_letters(word, name)
+    let n = name_length(word);
+    put_letters(word, n, name);
+    n
 }
 
 pub fn number_read(digits: &[u8]) -> u64

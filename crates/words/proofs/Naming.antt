@@ -8,7 +8,7 @@ use mathlib.Core.List.{List, [], _∷_, _++_, append-assoc, append-nil, map}
 use borrow.Author.Tests.{lt-ltb, le-ltb, le-leb, lt-leb, eq-eqb, ne-eqb}
 use lib.Dec.{T, eqb, ltb, leb, leb→le}
 use lib.ListN.{length, getD, take, drop, set, drop-of-length-le, length-drop, length-append, take-append-drop}
-use lib.Seq.{drop-cons, take-suc-set, length-take-le}
+use lib.Seq.{drop-cons, take-suc, take-suc-set, take-length}
 use Rattle.words.specs.Base.{if_then_else_, all, isNil, takeUntil}
 use Rattle.words.specs.Display.{codeOf, letter}
 use Rattle.words.specs.Text.{lowCodes}
@@ -40,18 +40,24 @@ unfolding isName
 no-letters [] e = sym (none-of [] refl)
 no-letters (b ∷ bs) e = absurd (omega arith)
 
-pub many-letters : (n : List ℕ) → 9 < length n → 0 ≡ wordOfName n
+pub many-none : (n : List ℕ) → 9 < length n → isName n ≡ false
 unfolding isName
-many-letters [] h = absurd (omega arith)
-many-letters (b ∷ bs) h = let e : isName (b ∷ bs) ≡ false = rw (lt-leb (suc (length bs)) 9 h) in sym (none-of (b ∷ bs) e)
+many-none [] h = absurd (omega arith)
+many-none (b ∷ bs) h = rw (lt-leb (suc (length bs)) 9 h)
 
-pub other-letter : (n : List ℕ) → all isNameByte n ≡ false → 0 ≡ wordOfName n
+pub many-letters : (n : List ℕ) → 9 < length n → 0 ≡ wordOfName n
+many-letters n h = sym (none-of n (many-none n h))
+
+pub other-none : (n : List ℕ) → all isNameByte n ≡ false → isName n ≡ false
 unfolding isName
-other-letter n e = sym (none-of n (rw e (go (not (isNil n) && leb (length n) 9))))
+other-none n e = rw e (go (not (isNil n) && leb (length n) 9))
   where
     go : (c : Bool) → (c && false) ≡ false
     go true = refl
     go false = refl
+
+pub other-letter : (n : List ℕ) → all isNameByte n ≡ false → 0 ≡ wordOfName n
+other-letter n e = sym (none-of n (other-none n e))
 
 pub letter-low : (b c : ℕ) → c ≡ codeOf b → c ≤ 0 → isNameByte b ≡ false
 letter-low b c e h = rw (← e, le-ltb 0 c h)
@@ -94,41 +100,12 @@ packed-end n w (suc i) x p over few is =
 abbrev cut : List ℕ → List ℕ
 cut cs = map letter (takeUntil (eqb 0) cs)
 
--- the letters put, then those of the codes from place i on
-abbrev pub Spelt : ℕ → List ℕ → ℕ → List ℕ
-Spelt w d i = take i d ++ cut (drop i (lowCodes 10 w []))
-
-pub spelt-start : (w : ℕ) (d : List ℕ) → Spelt w d 0 ≡ nameOf w
-unfolding nameOf
-spelt-start w d = refl
-
 module _ (w i c : ℕ) (few : i < 10) (is : c ≡ w / 64 ^ (9 - i) % 64) where
   code-is : getD (lowCodes 10 w []) i 0 ≡ c
   code-is = word-at w i [] few ∙ sym is
 
   inside : i < length (lowCodes 10 w [])
   inside = omega (arith, length-low 10 w [])
-
-  pub spelt-zero : (d : List ℕ) → c ≡ 0 → Spelt w d i ≡ take i d
-  spelt-zero d z = rw (drop-cons (lowCodes 10 w []) i 0 inside, code-is, z) (append-nil (take i d))
-
-  pub spelt-more : (d : List ℕ) → (c ≡ 0 → ⊥) → i < length d → Spelt w (set d i (letter c)) (i + 1) ≡ Spelt w d i
-  spelt-more d z room =
-      let cs : List ℕ = lowCodes 10 w [] in
-      rw (add-one, drop-cons cs i 0 inside, code-is, ne-eqb 0 c (λ e. z (sym e)), take-suc-set d i (letter c) room)
-      (append-assoc (take i d) (letter c ∷ []) (cut (drop (suc i) cs)))
-
--- as many letters put as there are
-pub spelt-full : (w i : ℕ) (d : List ℕ) → i ≤ length d → length (nameOf w) ≤ i → Spelt w d i ≡ nameOf w → take i d ≡ nameOf w
-spelt-full w i d room few e = go (cut (drop i (lowCodes 10 w []))) (omega (arith, ap length e, length-append (take i d) (cut (drop i (lowCodes 10 w []))), length-take-le i d room)) e
-  where
-    go : (r : List ℕ) → length r ≡ 0 → take i d ++ r ≡ nameOf w → take i d ≡ nameOf w
-    go [] z e = sym (append-nil (take i d)) ∙ e
-    go (x ∷ xs) z e = absurd (omega arith)
-
--- then the space has them, and behind them what it had
-pub spelt-all : (w i : ℕ) (d e : List ℕ) → i ≤ length d → drop i d ≡ drop i e → take i d ≡ nameOf w → (i ≡ length (nameOf w)) × (d ≡ nameOf w ++ drop i e)
-spelt-all w i d e room k s = (sym (length-take-le i d room) ∙ ap length s, sym (take-append-drop i d) ∙ rw (s, k))
 
 -- what is left of a word's letters from place i on is what is left of its codes
 abbrev pub Left : ℕ → ℕ → Type 0
@@ -155,53 +132,63 @@ module _ (w i c : ℕ) (few : i < 10) (is : c ≡ w / 64 ^ (9 - i) % 64) (l : Le
     left-parts : getD (nameOf w) i 0 ∷ drop (suc i) (nameOf w) ≡ letter c ∷ cut (drop (suc i) (lowCodes 10 w []))
     left-parts = sym (drop-cons (nameOf w) i 0 left-inside) ∙ left-one
 
+    left-letter : getD (nameOf w) i 0 ≡ letter c
+    left-letter = ap (λ (r : List ℕ). getD r 0 0) left-parts
+
     pub left-code : c ≡ codeOf (getD (nameOf w) i 0)
-    left-code = sym (ap codeOf (ap (λ (r : List ℕ). getD r 0 0) left-parts) ∙ code-letter c (omega arith))
+    left-code = sym (ap codeOf left-letter ∙ code-letter c (omega arith))
 
     pub left-more : Left w (i + 1)
     left-more = rw add-one (ap (drop 1) left-parts)
 
+    -- the letter is put behind those that were
+    pub left-put : (d : List ℕ) → i < length d → take i d ≡ take i (nameOf w) → take (i + 1) (set d i (letter c)) ≡ take (i + 1) (nameOf w)
+    left-put d room e = rw (add-one, take-suc-set d i (letter c) room, take-suc (nameOf w) i 0 left-inside, left-letter, e)
+
+  pub left-some : i < length (nameOf w) → c ≡ 0 → ⊥
+  left-some h z = omega (arith, left-none z)
+
 -- WHERE A WORD IS A NAME'S
-no-word : (w : ℕ) → (wordOfName (nameOf w) ≡ w → ⊥) → isNameWord w ≡ false
-unfolding isNameWord wordOfName
-no-word w h = go (isName (nameOf w)) h
+pub unnamed : (w : ℕ) → isName (nameOf w) ≡ false → 0 ≡ nameLength w
+unfolding nameLength isNameWord
+unnamed w e = rw e
+
+pub unmade : (w : ℕ) → (wordOfName (nameOf w) ≡ w → ⊥) → 0 ≡ nameLength w
+unfolding nameLength isNameWord wordOfName
+unmade w h = go (isName (nameOf w)) h
   where
-    go : (c : Bool) → ((if c then nameWord (nameOf w) else 0) ≡ w → ⊥) → (c && eqb (nameWord (nameOf w)) w) ≡ false
-    go true n = ne-eqb (nameWord (nameOf w)) w n
+    go : (c : Bool) → ((if c then nameWord (nameOf w) else 0) ≡ w → ⊥) → 0 ≡ (if c && eqb (nameWord (nameOf w)) w then length (nameOf w) else 0)
+    go true n = rw (ne-eqb (nameWord (nameOf w)) w n)
     go false n = refl
 
--- the letters of a word that they make again: a name, or none where the word is 0
-record Made (w : ℕ) : Type 0 where
-  few : length (nameOf w) ≤ 9
-  count : length (nameOf w) ≡ nameLength w
-  space : (d : List ℕ) → nameOf w ++ drop (length (nameOf w)) d ≡ nameInto w d
+zero-none : length (nameOf 0) ≡ 0
+unfolding nameOf
+zero-none = refl
 
-made-zero : Made 0
-unfolding isNameWord isName nameOf nameLength nameInto
-made-zero = record { few = omega arith; count = refl; space = λ d. refl }
-
-made-name : (w : ℕ) → isName (nameOf w) ≡ true → nameWord (nameOf w) ≡ w → Made w
-unfolding isNameWord nameLength nameInto
-made-name w is e =
-    let q = eq-eqb (nameWord (nameOf w)) w e in
-    record { few = name-parts (nameOf w) is .0; count = rw (is, q); space = λ d. rw (is, q) }
-
-made : (w : ℕ) → wordOfName (nameOf w) ≡ w → Made w
-unfolding wordOfName
-made w e = go (isName (nameOf w)) refl e
+-- the letters of a word that they make again: a name's, or none where the word is 0
+pub made : (w : ℕ) → wordOfName (nameOf w) ≡ w → length (nameOf w) ≡ nameLength w
+unfolding nameLength isNameWord wordOfName
+made w e = go (isName (nameOf w)) e
   where
-    go : (c : Bool) → isName (nameOf w) ≡ c → (if c then nameWord (nameOf w) else 0) ≡ w → Made w
-    go true is q = made-name w is q
-    go false is q = subst (λ (v : ℕ). Made v) q made-zero
+    go : (c : Bool) → (if c then nameWord (nameOf w) else 0) ≡ w → length (nameOf w) ≡ (if c && eqb (nameWord (nameOf w)) w then length (nameOf w) else 0)
+    go true q = rw (eq-eqb (nameWord (nameOf w)) w q)
+    go false q = ap (λ (v : ℕ). length (nameOf v)) (sym q) ∙ zero-none
 
-pub name-few : (w : ℕ) → wordOfName (nameOf w) ≡ w → length (nameOf w) ≤ 9
-name-few w e = made w e .few
+pub named-most : (w : ℕ) → (nameLength w ≤ 9) × (nameLength w ≤ length (nameOf w))
+unfolding nameLength isNameWord
+named-most w = go (isName (nameOf w)) refl (eqb (nameWord (nameOf w)) w)
+  where
+    go : (c : Bool) → isName (nameOf w) ≡ c → (d : Bool)
+        → ((if c && d then length (nameOf w) else 0) ≤ 9) × ((if c && d then length (nameOf w) else 0) ≤ length (nameOf w))
+    go true e true = (name-parts (nameOf w) e .0, omega arith)
+    go true e false = (omega arith, omega arith)
+    go false e d = (omega arith, omega arith)
 
-module _ (w : ℕ) (d : List ℕ) where
-  pub a-name : (t : List ℕ) (r : ℕ) → wordOfName (nameOf w) ≡ w → r ≡ length (nameOf w) → t ≡ nameOf w ++ drop r d
-      → (r ≡ nameLength w) × (t ≡ nameInto w d)
-  a-name t r e n q = (n ∙ made w e .count, q ∙ ap (λ (k : ℕ). nameOf w ++ drop k d) n ∙ made w e .space d)
-
-  pub no-name : (wordOfName (nameOf w) ≡ w → ⊥) → (0 ≡ nameLength w) × (d ≡ nameInto w d)
-  unfolding nameLength nameInto
-  no-name h = let e = no-word w h in (rw e, rw e)
+-- as many letters put as the name has, and the rest as it was
+pub named-into : (w n : ℕ) (t d : List ℕ) → n ≡ nameLength w → take n t ≡ take n (nameOf w) → drop n t ≡ drop n d → t ≡ nameInto w d
+unfolding nameLength nameInto
+named-into w n t d e front back = go (isNameWord w) e
+  where
+    go : (c : Bool) → n ≡ (if c then length (nameOf w) else 0) → t ≡ (if c then (nameOf w ++ drop (length (nameOf w)) d) else d)
+    go true is = sym (take-append-drop n t) ∙ rw (front, back, is, take-length (nameOf w))
+    go false is = subst (λ (m : ℕ). drop m t ≡ drop m d) is back
