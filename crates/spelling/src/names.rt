@@ -10,7 +10,7 @@ use words::BITS;
 use words::GAP;
 use words::TEN;
 use words::code_of;
-use words::letter_in;
+use words::letter_of;
 use words::power;
 use words::wide;
 
@@ -18,11 +18,6 @@ const NAME: usize = 9;
 
 // the codes of a name are above that of the colon and below that of the blank
 const COLON: u8 = 0;
-
-// in a word, the code that ends a name, and the first that no name has
-const END: usize = 0;
-
-const PAST: usize = 0o55;
 
 // the most digits of a number as it is read, the largest, and the most digits of any
 const READ: usize = 6;
@@ -60,11 +55,11 @@ pub fn word_of_name(name: &[u8]) -> u64
     w * power(TEN - i)
 }
 
-fn code_in(word: u64, place: usize) -> usize
+fn code_in(word: u64, place: usize) -> u8
     requires { ⌜ place < 10 ⌝ }
     ensures { λ r. ⌜ r ≡ word / 64 ^ (9 - place) % 64 ⌝ }
 {
-    ((word >> (BITS * (TEN - 1 - place))) % BASE) as usize
+    ((word >> (BITS * (TEN - 1 - place))) % BASE) as u8
 }
 
 // How many letters the name has whose word it is; 0 where it is no name's. The letters' codes stand in the word, so that the chart is not asked.
@@ -75,16 +70,16 @@ fn name_length(word: u64) -> usize
     let mut i = 0;
     while i < TEN {
         let c = code_in(word, i);
-        if c == END {
+        if c == COLON {
             if w * power(TEN - i) == word {
                 return i;
             }
             return 0;
         }
-        if PAST <= c {
+        if c >= GAP {
             return 0;
         }
-        w = w * BASE + c as u64;
+        w = w * BASE + wide(c);
         i += 1;
     }
     0
@@ -98,7 +93,7 @@ fn put_letters(word: u64, n: usize, name: &mut [u8])
 {
     let mut i = 0;
     while i < n {
-        name[i] = letter_in(code_in(word, i));
+        name[i] = letter_of(code_in(word, i));
         i += 1;
     }
 }

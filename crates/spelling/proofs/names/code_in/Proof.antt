@@ -18,9 +18,12 @@ mul-result c = search needs
 shr-result : tie.Need-shr-result
 shr-result c = search needs
 
+cast-result : tie.Need-cast-result
+cast-result c = search needs
+
 returns : tie.Need-returns
 returns c = ap (λ (p : ℕ). c .args .word / p % 64) (bits-power (9 - c .args .place))
 
 pub code-in-spec : {M : Type 1} → statement M
 code-in-spec =
-    tie.close (tie.spec sub-result sub-result-2 mul-result shr-result returns)
+    tie.close (tie.spec sub-result sub-result-2 mul-result shr-result cast-result returns)

@@ -64,8 +64,11 @@ returns-3 c =
 mul-w : tie.Need-mul-w Inv-loop μ-loop
 mul-w c = let l = c .before .before .before .before .loop in omega (arith, power-low (l .w) (l .i) 9 (omega arith) (l .inv .1 .1 .below))
 
+wide-requires : tie.Need-wide-requires Inv-loop μ-loop
+wide-requires c κs = search needs
+
 add-w : tie.Need-add-w Inv-loop μ-loop
-add-w c = let l = c .before .before .before .before .loop in omega (arith, power-low (l .w) (l .i) 9 (omega arith) (l .inv .1 .1 .below))
+add-w c = let l = c .before .before .before .before .before .loop in omega (arith, power-low (l .w) (l .i) 9 (omega arith) (l .inv .1 .1 .below))
 
 add-i : tie.Need-add-i Inv-loop μ-loop
 add-i c = search needs
@@ -75,23 +78,24 @@ loop-less c = search needs
 
 loop-again : tie.Need-loop-again Inv-loop μ-loop
 loop-again c =
-    let l = c .before .before .before .before .loop in
-    let w = c .before .before .before .before .before .args .word in
-    let some = c .before .if1 .left in
-    let is = c .before .before .code-in .ensures in
-    let few = c .before .before .before .loop-test .taken in
-    let k = c .before .before .code-in .result in
+    let l = c .before .before .before .before .before .loop in
+    let w = c .before .before .before .before .before .before .args .word in
+    let some = c .before .before .if1 .left in
+    let is = c .before .before .before .code-in .ensures in
+    let few = c .before .before .before .before .loop-test .taken in
+    let k = c .before .before .before .code-in .result in
     let code = left-code w (l .i) k few is (l .inv .1 .0) some in
     let in-name = left-inside w (l .i) k few is (l .inv .1 .0) some in
-    let one = letter-good (getD (nameOf w) (l .i) 0) k code (omega arith) (c .if3 .left) in (
+    let x : c .wide .result ≡ k = c .wide .ensures in
+    let one = letter-good (getD (nameOf w) (l .i) 0) k code (omega arith) (c .before .if3 .left) in (
       omega arith,
       (
         left-more w (l .i) k few is (l .inv .1 .0) some,
         record {
           inside = omega arith;
-          below = power-more (l .w) (l .i) k (l .inv .1 .1 .below) (omega arith);
+          below = rw x (power-more (l .w) (l .i) k (l .inv .1 .1 .below) (omega arith));
           good = passes isNameByte (nameOf w) (l .i) in-name one ∙ l .inv .1 .1 .good;
-          owed = pack-more (nameOf w) (l .w) (l .i) k in-name code ∙ l .inv .1 .1 .owed;
+          owed = rw x (pack-more (nameOf w) (l .w) (l .i) k in-name code) ∙ l .inv .1 .1 .owed;
         },
       ),
     )
@@ -117,6 +121,7 @@ name-length-spec =
     returns-2
     returns-3
     mul-w
+    wide-requires
     add-w
     add-i
     loop-less

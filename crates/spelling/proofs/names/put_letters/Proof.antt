@@ -23,8 +23,8 @@ loop-holds c = (omega arith, (c .before .pre .1, (left-start (c .before .args .w
 code-in-requires : tie.Need-code-in-requires Inv-loop μ-loop
 code-in-requires c κs = omega (arith, named-most (c .before .before .before .args .word) .0, c .before .before .before .pre .0)
 
-letter-in-requires : tie.Need-letter-in-requires Inv-loop μ-loop
-letter-in-requires c κs = search needs
+letter-of-requires : tie.Need-letter-of-requires Inv-loop μ-loop
+letter-of-requires c κs = search needs
 
 slice-write-name : tie.Need-slice-write-name Inv-loop μ-loop
 slice-write-name c = omega (arith, named-most (c .before .before .before .before .before .args .word) .0, c .before .before .before .before .before .pre .0, c .before .before .before .loop .inv .1 .0)
@@ -50,7 +50,7 @@ loop-again c =
         (
           left-more w (l .i) _ few is (l .inv .1 .1 .0) some,
           (
-            rw (c .letter-in .ensures) (left-put w (l .i) _ few is (l .inv .1 .1 .0) some (l .name) (omega (arith, most .0, c .before .before .before .before .before .pre .0)) (l .inv .1 .1 .1 .0)),
+            rw (c .letter-of .ensures) (left-put w (l .i) _ few is (l .inv .1 .1 .0) some (l .name) (omega (arith, most .0, c .before .before .before .before .before .pre .0)) (l .inv .1 .1 .1 .0)),
             drop-set-lt (l .i + 1) (l .name) (l .i) _ (omega arith) ∙ sym (drop-drop 1 (l .i) (l .name)) ∙ ap (drop 1) (l .inv .1 .1 .1 .1) ∙ drop-drop 1 (l .i) e,
           ),
         ),
@@ -70,4 +70,4 @@ returns c =
 pub put-letters-spec : {M : Type 1} → statement M
 put-letters-spec =
     tie.close
-    (tie.spec Inv-loop μ-loop loop-holds code-in-requires letter-in-requires slice-write-name add-i loop-less loop-again same-length returns)
+    (tie.spec Inv-loop μ-loop loop-holds code-in-requires letter-of-requires slice-write-name add-i loop-less loop-again same-length returns)
