@@ -20,7 +20,7 @@ static void put(struct library *l, uint64_t word) {
     l->words[l->n++] = word;
 }
 
-/* A line without colons and without two blanks together, ten codes to a word. */
+/* A line without colons and without two blanks together, in words of ten codes. */
 static size_t put_text(struct library *l, const char *line) {
     size_t length = strlen(line), count = (length + CODES - 1) / CODES;
     for (size_t i = 0; i < count; i++) {

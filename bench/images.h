@@ -1,4 +1,4 @@
-/* A library in memory, and libraries for the benchmark, written as document 01 lays out their words. */
+/* A library in memory, and libraries for the benchmark, written in the words of the layout (RULES, "Libraries"). */
 #ifndef IMAGES_H
 #define IMAGES_H
 

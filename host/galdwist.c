@@ -16,7 +16,7 @@
 #include <unistd.h>
 
 enum { DONE, REFUSED, FAILED };
-enum { LAST_OF_LIBRARY = 10, NO_ROOM = 44 };        /* 01's rows: up to the one the library is at fault; at the other a compile wants more room */
+enum { LAST_OF_LIBRARY = 10, NO_ROOM = 44 };        /* rows of the table: up to the one the library is at fault; at the other a compile wants more room */
 enum { FIRST_ENTRY = 2, NAME = 9 };                 /* the word of an image where its directory starts; the columns of a name in a row of it */
 enum { FIRST_ROOM = 1 << 20 };                      /* bytes lent to a compile at first */
 enum { FIRST_READ = 1 << 16, MOST_READ = 1 << 28 }; /* bytes read of a file: an endless one has to end somewhere */
@@ -130,7 +130,7 @@ static const char *meaning(uint64_t number) {
     for (size_t i = 0; i < sizeof meanings / sizeof *meanings; i++)
         if (meanings[i].number == number)
             return meanings[i].means;
-    return "Document 01 has the table of numbers.";
+    return "The rules have the table of numbers.";
 }
 
 static int explained(uint64_t number) {

@@ -1,4 +1,4 @@
-/* The library check through the C face: the fresh library, 01's shown library, and the smallest images of some rows. The last line counts. */
+/* The library check through the C face: the fresh library, the shown library, and the smallest images of some rows. The last line counts. */
 #include "expect.h"
 #include "galdwist.h"
 #include "shown.h"
@@ -20,7 +20,7 @@ int main(void) {
     answers(other, 3, 2, 0, "another header");
     answers(no_deck, 3, 3, 1, "no deck");
     answers(named, 3, 4, 2, "a name with its low six bits");
-    answers(shown, 15, 0, 0, "01's shown library");
+    answers(shown, 15, 0, 0, "the shown library");
     answers(shown, 14, 5, 13, "a card past the end");
     shown[8] += UINT64_C(1) << 58;
     answers(shown, 15, 9, 8, "a stored activity bit");

@@ -1,5 +1,5 @@
 /* The C face in use: makes a library, corrects it, writes its compile file, takes the correction back and looks at the directory, all in
- * memory, on the shown example of document 01. The last line counts. */
+ * memory, on the shown example (RULES, "Shown example"). The last line counts. */
 #include "expect.h"
 #include "galdwist.h"
 #include <string.h>

@@ -1,4 +1,4 @@
-/* The keeper's functions through the C face: the fresh library, the directory and a card of 01's shown library, both sides of each space. The last line counts. */
+/* The keeper's functions through the C face: the fresh library, the directory and a card of the shown library, both sides of each space. The last line counts. */
 #include "expect.h"
 #include "galdwist.h"
 #include "shown.h"

@@ -25,7 +25,7 @@ struct image {
 
 /* The cards of three libraries, first those of YANK$$$ and then those of the decks, behind k entries of another: k is in every history byte, at its place
  * in the word, and nowhere else.
- *   PUMP: 01's shown library, and the set TWO that yanks ONE
+ *   PUMP: the shown library, and the set TWO that yanks ONE
  *   HULL: `*COMDECK VALVE`, ` C=4`, `*DECK HULL`, ` D=5`, `*CALL VALVE`, `*IDENT SET`, `*DELETE HULL.2`, ` D=6`, `*IDENT BACK`, `*YANK SET`,
  *         `*IDENT AGAIN`, `*YANK BACK`
  *   RIG:  `*DECK RIG`, ` E=7`, then M1 to M4, which delete and restore RIG.2 by turns, and M5, `*YANK M3` */

@@ -1,4 +1,4 @@
-/* The words of 01's shown library, after its stream. */
+/* The words of the shown library PUMP (RULES, "Shown example"). */
 #ifndef SHOWN_H
 #define SHOWN_H
 

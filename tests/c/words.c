@@ -64,7 +64,7 @@ static void round_trips(void) {
     }
 }
 
-/* The fresh library of document 01: 3 words, 23 bytes, most significant bit first. */
+/* The fresh library (RULES, "Packing"): 3 words, 23 bytes, the highest bit of each word ahead. */
 static void fresh_library(void) {
     static const uint64_t words[3] = {03100503130004003147, 1, 031011613535353000000};
     size_t length = put_words(words, 3, source);

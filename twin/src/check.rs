@@ -1,4 +1,4 @@
-//! 01, "Numbers of the answers", rows 1 to 10: reads an image, refusing it in the order of 01's rows.
+//! RULES, "The check", rows 1 to 10: reads an image, refusing it in the order of the rules.
 
 use std::collections::hash_map::Entry as Slot;
 
@@ -34,7 +34,7 @@ pub fn check(image: &[u64]) -> Result<Library, Refusal> {
     Ok(library)
 }
 
-/// Row 1; "In 1 the lengths come first."
+/// Row 1: too few words, then too many, then a number that is no word.
 fn check_words(image: &[u64]) -> Result<(), Refusal> {
     let fault = if image.len() < 3 {
         Some(image.len())
@@ -99,7 +99,7 @@ fn read_entry(word: u64, library: &mut Library) -> bool {
     }
 }
 
-/// "YANK$$$ first; every other name is in the directory, none twice."
+/// The list begins with YANK$$$; each name after it is one of the directory, and did not stand in the list yet.
 fn belongs_to_list(name: Name, list: &[Name], library: &Library) -> bool {
     if list.is_empty() {
         name == YANK_DECK
@@ -108,7 +108,7 @@ fn belongs_to_list(name: Name, list: &[Name], library: &Library) -> bool {
     }
 }
 
-/// Rows 5 and 6, card by card.
+/// Rows 5 and 6, one card after another.
 fn read_cards(image: &[u64], start: usize, library: &Library) -> Result<Vec<Stored>, Refusal> {
     let mut cards = Vec::new();
     let mut place = start;
@@ -183,8 +183,8 @@ fn history_stands(history: &[Byte], library: &Library) -> bool {
         && history.windows(2).all(|pair| pair[0].number <= pair[1].number)
 }
 
-/// Row 7: "A deck card's text is a DECK or COMDECK directive; it is owned by that deck, numbered 1, with one byte, and
-/// names the next deck in the list." A wrong card comes ahead of a missing one.
+/// Row 7: a deck card is a well-formed DECK or COMDECK of the list's next name, which owns it; its number is 1, and it
+/// has one byte. A wrong card comes ahead of a missing one.
 fn part_decks(image: &[u64], list: &[Name], cards: &mut [Stored], library: &mut Library) -> Result<(), Refusal> {
     for Stored { card, place, .. } in cards.iter_mut() {
         if is_deck_line(&card.line) {
@@ -213,7 +213,7 @@ fn deck_card(card: &Card, library: &Library) -> Option<(Kind, Name)> {
     }
 }
 
-/// Row 8: "Every card of YANK$$$ is a YANK directive that names only sets (never decks) with lower numbers than its owner."
+/// Row 8: each card of YANK$$$ is a well-formed YANK, and each name on it is a set's, with a number below the owner's.
 fn read_yanks(cards: &mut [Stored], library: &Library) -> Result<(), Refusal> {
     for Stored { card, place, .. } in cards.iter_mut().take_while(|stored| stored.card.deck == 0) {
         card.yanks = yanked_sets(card, library).ok_or_else(|| Refusal::new(Number::YankCard, *place))?;
@@ -243,7 +243,7 @@ fn take_cards(cards: &[Stored], library: &mut Library) -> Result<(), Refusal> {
     Ok(())
 }
 
-/// Row 9: "Stored yank and activity bits agree with this."
+/// Row 9: the bits as they are stored against those that settling gives.
 fn check_bits(cards: &[Stored], library: &Library) -> Result<(), Refusal> {
     let yanked = library.settle();
     let agrees = |stored: &Stored| {

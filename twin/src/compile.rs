@@ -1,4 +1,4 @@
-//! 01, "The compile file", and the compile program of "Shown example".
+//! RULES, "The compile file" and "The compile program".
 
 use crate::check::check;
 use crate::library::{Card, Library};
@@ -130,7 +130,7 @@ impl<'a> Walk<'a> {
     }
 }
 
-/// "Columns 1-72 of text, a blank, owner name left justified in 9 columns, sequence number right justified in 8, byte 10."
+/// 72 columns of the line, a blank, the owner's name in 9 columns, the sequence number at the right end of 8, byte 10.
 fn file_line(card: &Card, owner: Name) -> [u8; LINE_BYTES] {
     let mut line = [b' '; LINE_BYTES];
     let columns = card.line.len().min(TEXT_COLUMNS);

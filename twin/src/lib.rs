@@ -1,4 +1,4 @@
-//! A second implementation of the engine that documents 01 and 02 describe, written from those documents alone.
+//! A second implementation of the engine that docs/RULES.md describes, written from the rules alone.
 
 pub mod cases;
 pub mod check;

@@ -1,4 +1,4 @@
-//! 01, "The libraries we read and write" and "When a card is active": a library as decks of cards.
+//! RULES, "Libraries" and "When a card is active": a library as decks of cards.
 
 use std::collections::HashMap;
 
@@ -79,7 +79,7 @@ impl Card {
         self.history[0].number
     }
 
-    /// "A card is active when its last byte that is not yanked is an activating one."
+    /// Of the bytes whose numbers are not yanked the last one says it; without any the card is not active.
     pub fn is_active(&self, yanked: &Yanked) -> bool {
         let last = self.history.iter().rev().find(|byte| !yanked[usize::from(byte.number)]);
         last.map_or(false, |byte| byte.activating)
@@ -140,7 +140,7 @@ impl Library {
         number
     }
 
-    /// Adds a deck at the library's end, without its deck card.
+    /// Adds a deck after all others, without its deck card.
     pub fn add_deck(&mut self, number: u16, name: Name, kind: Kind) {
         self.directory[usize::from(number) - 1].deck = Some(self.decks.len());
         self.decks.push(Deck { name, common: kind == Kind::Comdeck, cards: Vec::new() });
@@ -169,7 +169,7 @@ impl Library {
         (deck, index.expect("a card stands in its deck"))
     }
 
-    /// Settles the yanks "from the highest number down": a card of YANK$$$ names only lower numbers than its owner, and
+    /// Settles the yanks, the highest owners first: a card of YANK$$$ names only numbers below its owner's, and
     /// its bytes have no lower ones, so its activity is known once all cards of higher owners are done.
     pub fn settle(&self) -> Yanked {
         let mut yanked = vec![false; self.directory.len() + 1];

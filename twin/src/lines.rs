@@ -1,4 +1,4 @@
-//! 01, "Directives": lines, directive names, and the form of each directive.
+//! RULES, "Lines" and "Directives": lines, directive names, and the form of each directive.
 
 use crate::refusal::Number;
 use crate::text::Name;
@@ -6,7 +6,7 @@ use crate::text::Name;
 pub const LAST_SEQUENCE: u32 = 262_143;
 const SEQUENCE_DIGITS: usize = 6;
 
-/// The names of 000 that answer 23, full and then short. 000 gives COPY both C, which is COMPILE's too, and CY.
+/// The names of UPDATE that are not carried (23), full and then short. C is short for COMPILE, and in UPDATE for COPY too.
 pub const NOT_CARRIED: [&[u8]; 57] = [
     b"ABBREV", b"ADDFILE", b"CHANGE", b"COMPILE", b"COPY", b"CWEOR", b"DECLARE", b"DEFINE", b"DO", b"DONT", b"ENDIF",
     b"ENDTEXT", b"IF", b"LIMIT", b"LIST", b"MOVE", b"NOABBREV", b"NOLIST", b"PULLMOD", b"PURDECK", b"PURGE", b"READ",
@@ -42,7 +42,7 @@ pub enum Line {
     Yank(Vec<Name>),
 }
 
-/// The lines of a stream: "Lines end at byte 10; a last line may lack it."
+/// The lines of a stream: each up to a byte 10, and what stands after the last of these.
 pub fn lines(stream: &[u8]) -> impl Iterator<Item = &[u8]> {
     stream.split_inclusive(|&byte| byte == 10).map(|line| line.strip_suffix(b"\n").unwrap_or(line))
 }
@@ -71,7 +71,7 @@ pub fn read(line: &[u8]) -> Result<Line, Number> {
     }
 }
 
-/// Whether a card's text is a DECK or COMDECK directive, well formed or not.
+/// Whether a line has the name of DECK or COMDECK, well formed or not.
 pub fn is_deck_line(line: &[u8]) -> bool {
     matches!(directive_name(line), Some((b"DECK" | b"DK" | b"COMDECK" | b"CD", _)))
 }
@@ -84,14 +84,14 @@ pub fn call(line: &[u8]) -> Option<Result<Name, Number>> {
     }
 }
 
-/// "Column 1 is `*`, the name follows and ends at one comma, one or more blanks or the line's end."
+/// What stands after a `*` in column 1, up to the first comma or blank or the line's end; and the rest.
 fn directive_name(line: &[u8]) -> Option<(&[u8], &[u8])> {
     let body = line.strip_prefix(b"*")?;
     let end = body.iter().position(|&byte| byte == b',' || byte == b' ').unwrap_or(body.len());
     Some(body.split_at(end))
 }
 
-/// "Parameters are parted by one comma and hold no blank, the rest of the line is blank."
+/// One comma or the blanks are passed; the field up to the next blank is cut at its commas; only blanks may follow it.
 fn parameters(rest: &[u8]) -> Result<Vec<&[u8]>, Number> {
     let start = match rest.first() {
         Some(b',') => 1,
@@ -132,7 +132,7 @@ fn range(rest: &[u8]) -> Result<(CardName, CardName), Number> {
     }
 }
 
-/// IDENT and COMDECK: in 000 more parameters may follow the name; any such is 23.
+/// IDENT and COMDECK: UPDATE has more parameters after the name; any such is 23.
 fn unit_with_options(kind: Kind, rest: &[u8]) -> Result<Line, Number> {
     let parameters = parameters(rest)?;
     let name = Name::of_bytes(parameters[0]).ok_or(Number::DirectiveForm)?;
@@ -142,7 +142,7 @@ fn unit_with_options(kind: Kind, rest: &[u8]) -> Result<Line, Number> {
     }
 }
 
-/// "A card is written name.number, the number 1 to 262143 in at most six digits."
+/// A card's name: a name, a point, and up to six digits with a value from 1 to 262143.
 fn card_name(parameter: &[u8]) -> Option<CardName> {
     let dot = parameter.iter().position(|&byte| byte == b'.')?;
     let owner = Name::of_bytes(&parameter[..dot])?;

@@ -1,4 +1,4 @@
-//! 02, T-11: the merge of two libraries. The second goes behind the first: directory behind directory, YANK$$$ behind
+//! RULES, "The merge": the merge of two libraries. The second goes behind the first: directory behind directory, YANK$$$ behind
 //! YANK$$$, decks behind decks.
 
 use crate::check::check;

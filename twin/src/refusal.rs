@@ -1,4 +1,4 @@
-//! 01, "Numbers of the answers", and the refusals of 02: the numbers, and the places that go with them.
+//! RULES, "Numbers of the answers": the numbers, and the places that go with them.
 
 /// The number of a refusal. The order of the values is the order of the table, so the lowest of several is their minimum.
 #[derive(Clone, Copy, Debug, PartialEq, Eq, PartialOrd, Ord, Hash)]

@@ -1,4 +1,4 @@
-//! 01, "Directives": a correction run.
+//! RULES, "Units", "Corrections" and "The run": a correction run.
 
 use crate::check::check;
 use crate::library::{history_words, Byte, Library, Yanked, MAX_BYTES, MAX_CARDS, MAX_DECKS, MAX_NAMES, MAX_WORDS};
@@ -161,7 +161,7 @@ impl Run {
         Ok(())
     }
 
-    /// DELETE and RESTORE: each card of the range of the other activity gets one byte of this set.
+    /// DELETE and RESTORE: a byte of this set for each card of the range that is not yet as asked.
     fn correct(&mut self, first: CardName, last: CardName, activating: bool) -> Result<(), Number> {
         let number = self.set()?;
         let (first, last) = (self.find(first)?, self.find(last)?);
@@ -196,7 +196,7 @@ impl Run {
         self.grow(history_words(bytes) - words)
     }
 
-    /// YANK: "the line becomes a card of this set at the end of YANK$$$", and ends an insertion.
+    /// YANK: a new card, the last of YANK$$$; no text can follow it.
     fn yank(&mut self, names: &[Name], line: &[u8]) -> Result<(), Number> {
         let set = self.set()?;
         let refused = names.iter().filter_map(|&name| self.yank_refusal(name, set)).min();

@@ -1,8 +1,8 @@
-//! 01, "Text" and "Directory": display code, compressed lines, and names.
+//! RULES, "Text" and "Names and numbers": display code, compressed lines, and names.
 
 use crate::words::field;
 
-/// The CDC ASCII 64-character set, in the order of its display codes.
+/// The 64 characters, in the order of their display codes.
 pub const CHART: &[u8; 64] = b":ABCDEFGHIJKLMNOPQRSTUVWXYZ0123456789+-*/()$= ,.#[]%\"_!&'?<>@\\^;";
 pub const COLUMNS: usize = 80;
 
@@ -45,7 +45,7 @@ fn codes_of_line(line: &[u8]) -> Vec<u8> {
     codes
 }
 
-/// "1 or 2 as 55s, 3 to 64 as 0002 to 0077, above 64 as 0077 and then the rest of the run by the same rule."
+/// A run of blanks: 00 77 for 64 of them while more are left, then 55 for each of one or two, or 00 and their count less one.
 fn push_run(codes: &mut Vec<u8>, run: usize) {
     match run {
         0 => {}
@@ -58,7 +58,7 @@ fn push_run(codes: &mut Vec<u8>, run: usize) {
     }
 }
 
-/// "Ten codes to a word, zero fill, the fewest words."
+/// Ten codes in each word, zeros after the last code, and no word more than needed.
 pub fn words_of_codes(codes: &[u8]) -> Vec<u64> {
     codes
         .chunks(CODES_PER_WORD)
@@ -73,7 +73,7 @@ fn codes_of_word(word: u64) -> impl Iterator<Item = u8> {
     (0..CODES_PER_WORD as u32).rev().map(move |at| field(word, 6 * at + 5, 6 * at) as u8)
 }
 
-/// The line of a compressed text. "Only this encoding is accepted": what compresses to other words is no text.
+/// The line of a compressed text. What compresses to other words is no text.
 pub fn expand(words: &[u64]) -> Option<Vec<u8>> {
     let mut line = Vec::new();
     let mut codes = words.iter().flat_map(|&word| codes_of_word(word));
@@ -97,12 +97,12 @@ pub fn expand(words: &[u64]) -> Option<Vec<u8>> {
     }
 }
 
-/// A name, as its directory word: 1 to 9 characters left justified in bits 59-06, the rest zero.
+/// A name, as its directory word: the codes of its 1 to 9 characters from bit 59 down, the rest zero.
 #[derive(Clone, Copy, Debug, PartialEq, Eq, Hash)]
 pub struct Name(u64);
 
 const NAME_COLUMNS: usize = 9;
-/// Codes 01 to 54: A-Z 0-9 + - * / ( ) $ =
+/// A name has the codes 1 to 54 in octal: letters, digits, and `+ - * / ( ) $ =`.
 const LAST_NAME_CODE: u8 = 0o54;
 
 /// The reserved name of the first deck.

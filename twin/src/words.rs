@@ -1,11 +1,11 @@
-//! 01, "Words": 60-bit words, one to a 64-bit number, and their packed form.
+//! RULES, "Words" and "Packing": words of 60 bits, each in a number of 64, and their packed form.
 
 use crate::refusal::Number;
 
 /// The first number that is no word.
 pub const WORD_END: u64 = 1 << 60;
 
-/// Bits `high` to `low` of a word, as 01 counts them.
+/// Bits `high` to `low` of a word, bit 0 being the lowest.
 pub fn field(word: u64, high: u32, low: u32) -> u64 {
     (word >> low) & ((1 << (high - low + 1)) - 1)
 }
@@ -14,7 +14,7 @@ pub fn bit(word: u64, at: u32) -> bool {
     field(word, at, at) == 1
 }
 
-/// The byte form for C: each word as eight bytes, lowest first.
+/// The byte form for C: eight bytes for each word, the lowest ahead.
 pub fn to_bytes(words: &[u64]) -> Vec<u8> {
     words.iter().flat_map(|word| word.to_le_bytes()).collect()
 }
@@ -24,7 +24,7 @@ pub fn from_bytes(bytes: &[u8]) -> Vec<u64> {
     bytes.chunks_exact(8).map(|chunk| chunk.iter().rev().fold(0, |word, &byte| word << 8 | u64::from(byte))).collect()
 }
 
-/// "n words take 15 times n halved, rounded up."
+/// The bytes of n words: seven and a half for each, rounded up.
 pub fn packed_length(words: usize) -> usize {
     (words * 15 + 1) / 2
 }
@@ -38,7 +38,7 @@ pub fn packed_words(length: usize) -> Option<usize> {
     }
 }
 
-/// Packs words, most significant bit first; an odd last word is followed by four zero bits.
+/// Packs words, the highest bit of each ahead; an odd last word is followed by four zero bits.
 pub fn pack(words: &[u64]) -> Vec<u8> {
     let mut packed = Vec::with_capacity(packed_length(words.len()));
     for pair in words.chunks(2) {

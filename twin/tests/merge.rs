@@ -1,4 +1,4 @@
-//! 02, T-11: each rule of a merge with its smallest input, and what holds of every pair of libraries.
+//! RULES, "The merge": each rule of a merge with its smallest input, and what holds of every pair of libraries.
 
 use twin::cases::{Answer, Case};
 use twin::check::check;
@@ -238,7 +238,7 @@ fn tables_and_yank_cards_and_decks_follow_the_first() {
     assert_eq!(octal(&merged(&first, &second)), expected);
 }
 
-/// 01's shown library after TWO, behind two names.
+/// The shown library after TWO, behind two names.
 #[test]
 fn settled_bits_stay() {
     let second = library("*DECK PUMP| A=1| B=2|*IDENT ONE|*DELETE PUMP.2| A=3|*IDENT TWO|*YANK ONE");

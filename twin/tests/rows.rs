@@ -1,4 +1,4 @@
-//! 01, "Numbers of the answers": each number with its smallest input.
+//! RULES, "Numbers of the answers": each number with its smallest input.
 
 use twin::check::check;
 use twin::compile::{compile, program, LINE_BYTES, MAX_CALLS, PROGRAM_INPUT};

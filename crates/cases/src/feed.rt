@@ -1,8 +1,8 @@
 // Standard input, read 64 KiB at a time.
 ghost use Prim.Native.Nat.{_≤_};
-use crate::head::Head;
 use crate::space::front_bytes;
 use crate::space::front_words;
+use cases_sums::Head;
 use libc::STDIN_FILENO;
 
 // the lengths of the arrays: what is read at a time, and a case's blobs as words (two images, each one word longer than a library may be) and as bytes
@@ -82,7 +82,7 @@ fn take_words(input: &mut [u8; INPUT], feed: Feed, out: &mut [u64]) -> Feed {
     let mut eight = [0u8; 8];
     while i < out.len() {
         f = take_bytes(input, f, &mut eight);
-        out[i] = crate::head::word(&eight);
+        out[i] = cases_sums::word_of(&eight);
         i += 1;
     }
     f

@@ -1,11 +1,10 @@
 // Op 8: what a line asks, as the number of its kind and the words that it names (tests/CASES.md).
-ghost use Rattle.io.specs.Counts.{Counts};
 use crate::answer::Answer;
 use crate::space::front_words;
-use lines::Call;
-use lines::Line;
-use lines::NameStep;
-use sums::sum_words;
+use cases_sums::sum_words;
+use words_lines::Call;
+use words_lines::Line;
+use words_lines::NameStep;
 
 const TEXT: u64 = 0;
 
@@ -58,7 +57,7 @@ fn put_names(field: &[u8], names: &mut [u64; NAMES]) -> usize {
     let mut at = 0;
     let mut n = 0;
     while n < NAMES {
-        match directives::next_name(field, at) {
+        match words_lines_asked::next_name(field, at) {
             NameStep::Name { word, next } => {
                 names[n] = word;
                 at = next;
@@ -78,13 +77,13 @@ fn summed_names(names: &[u64; NAMES], count: usize) -> Answer {
 
 fn yank(line: &[u8]) -> Answer {
     let mut names = [0u64; NAMES];
-    let n = put_names(lines::field_of(line), &mut names);
+    let n = put_names(words_lines::field_of(line), &mut names);
     summed_names(&names, n)
 }
 
 // A text line is a CALL's or no CALL: its words are 1 and the name, or 2 for a malformed one.
 fn text(line: &[u8]) -> Answer {
-    match lines::call_of(line) {
+    match words_lines::call_of(line) {
         Call::Not => summed(TEXT, &[0, 0], 0),
         Call::Of(w) => summed(TEXT, &[1, w], 2),
         Call::Malformed => summed(TEXT, &[2, 0], 1),
@@ -92,8 +91,8 @@ fn text(line: &[u8]) -> Answer {
 }
 
 pub fn line(line: &[u8]) -> Answer {
-    let l = directives::directive(line);
-    let number = directives::line_number(l);
+    let l = words_lines_asked::directive(line);
+    let number = words_lines_asked::line_number(l);
     if number != 0 {
         return Answer::Numbers(number, 0, 0, 0);
     }

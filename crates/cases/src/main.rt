@@ -2,11 +2,10 @@
 //
 //     op:u8  room:u32  n1:u32  n2:u32  blob1[n1]  blob2[n2]        numbers are little-endian
 //
-// An answer is four decimals parted by single blanks: three of the call, and a sum over the whole space that was lent to it. A case that the program
+// An answer is four decimals with one blank between: three of the call, and a sum over the whole space that was lent to it. A case that the program
 // does not answer has a line that says why in the answer's place.
 mod answer;
 mod feed;
-mod head;
 mod line;
 mod ops;
 mod space;
@@ -28,7 +27,7 @@ fn read(
     bytes: &mut [u8; BYTES],
 ) -> Feed {
     let past = feed::take_bytes(input, feed, head);
-    feed::load(input, past, head::read(head), words, bytes)
+    feed::load(input, past, cases_sums::read_head(head), words, bytes)
 }
 
 // Answers the case that was read.
@@ -40,7 +39,7 @@ fn answer_one(
     library: &mut [u64; LIBRARY],
     file: &mut [u8; FILE],
 ) {
-    let h = head::read(head);
+    let h = cases_sums::read_head(head);
     if over {
         answer::write(h.op, Answer::Truncated);
         return;

@@ -1,16 +1,16 @@
 // The ops. One more is an arm of `answer` and a function that lends the fronts of the arrays to the engine; none needs a proof file.
 ghost use Rattle.io.specs.Counts.{Counts};
 use crate::answer::Answer;
-use crate::head::Head;
 use crate::space::front_bytes;
 use crate::space::front_words;
-use compressing::Compressed;
-use packing::Packing;
-use sums::fill_bytes;
-use sums::fill_words;
-use sums::sum_bytes;
-use sums::sum_words;
-use text::Expanded;
+use cases_sums::Head;
+use cases_sums::fill_bytes;
+use cases_sums::fill_words;
+use cases_sums::sum_bytes;
+use cases_sums::sum_words;
+use words_packing::Packing;
+use words_text_compress::Compressed;
+use words_text_expand::Expanded;
 
 // the lengths of the arrays whose fronts are the room of a call
 pub const LIBRARY: usize = 65536;
@@ -20,8 +20,8 @@ pub const FILE: usize = 182000;
 fn packing_answer(p: Packing, room: &[u8]) -> Answer {
     let sum = sum_bytes(room);
     Answer::Numbers(
-        packing::packing_number(p),
-        packing::packing_value(p),
+        words_packing::packing_number(p),
+        words_packing::packing_value(p),
         0,
         sum,
     )
@@ -29,7 +29,7 @@ fn packing_answer(p: Packing, room: &[u8]) -> Answer {
 
 fn pack_into(source: &[u8], room: &mut [u8]) -> Answer {
     fill_bytes(room);
-    let p = packing::pack_bytes(source, room);
+    let p = words_packing::pack_bytes(source, room);
     packing_answer(p, room)
 }
 
@@ -44,7 +44,7 @@ fn pack(head: Head, bytes: &[u8], file: &mut [u8]) -> Answer {
 
 fn unpack_into(source: &[u8], room: &mut [u8]) -> Answer {
     fill_bytes(room);
-    let p = unpacking::unpack_bytes(source, room);
+    let p = words_packing_back::unpack_bytes(source, room);
     packing_answer(p, room)
 }
 
@@ -76,13 +76,13 @@ fn compress(head: Head, bytes: &[u8]) -> Answer {
         return Answer::Beyond;
     }
     let mut text = [0u64; 16];
-    let c = compressing::compress(&bytes[..n], &mut text);
+    let c = words_text_compress::compress(&bytes[..n], &mut text);
     match c {
         Compressed::Words(count) => {
             let k = front_text(count, &text);
             Answer::Numbers(0, count as u64, 0, sum_words(&text[..k]))
         }
-        _ => Answer::Numbers(compressing::compressed_number(c), 0, 0, 0),
+        _ => Answer::Numbers(words_text_compress::compressed_number(c), 0, 0, 0),
     }
 }
 
@@ -92,13 +92,13 @@ fn expand(head: Head, words: &[u64]) -> Answer {
         return Answer::Beyond;
     }
     let mut line = [0u8; 80];
-    let e = text::expand(&words[..n], &mut line);
+    let e = words_text_expand::expand(&words[..n], &mut line);
     match e {
         Expanded::Columns(count) => {
             let k = front_line(count, &line);
             Answer::Numbers(0, count as u64, 0, sum_bytes(&line[..k]))
         }
-        Expanded::NoText => Answer::Numbers(text::expanded_number(e), 0, 0, 0),
+        Expanded::NoText => Answer::Numbers(words_text_expand::expanded_number(e), 0, 0, 0),
     }
 }
 
@@ -115,7 +115,7 @@ fn check(head: Head, words: &[u64]) -> Answer {
     if n * 8 < head.first {
         return Answer::Beyond;
     }
-    let c = checks::check(&words[..n]);
+    let c = library_check::check(&words[..n]);
     Answer::Numbers(library::checked_number(c), library::checked_place(c), 0, 0)
 }
 
@@ -123,7 +123,12 @@ fn run_into(old: &[u64], stream: &[u8], room: &mut [u64]) -> Answer {
     fill_words(room);
     let r = run::run(old, stream, room);
     let sum = sum_words(room);
-    Answer::Numbers(run::ran_number(r), run::ran_value(r), 0, sum)
+    Answer::Numbers(
+        run_meaning::ran_number(r),
+        run_meaning::ran_value(r),
+        0,
+        sum,
+    )
 }
 
 fn run(head: Head, words: &[u64], bytes: &[u8], library: &mut [u64]) -> Answer {
@@ -162,9 +167,9 @@ fn merge_into(first: &[u64], second: &[u64], room: &mut [u64]) -> Answer {
     let m = merge::merge(first, second, room);
     let sum = sum_words(room);
     Answer::Numbers(
-        merge::merged_number(m),
-        merge::merged_value(m),
-        merge::merged_which(m),
+        merge_meaning::merged_number(m),
+        merge_meaning::merged_value(m),
+        merge_meaning::merged_which(m),
         sum,
     )
 }

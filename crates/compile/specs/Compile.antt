@@ -1,26 +1,25 @@
--- The compile file of a library, and what the program writes (01, "The compile file", "Shown example").
---   over a view         compileChosen, compileView
---   over images         Compiling, compiling
---   the answer          compiled, compileInto, stopNumber, compiledNumber, compiledFirst, compiledSecond
---   the program         program
-use Prim.Native.Nat.{ℕ, _/_}
-use mathlib.Core.Bool.{Bool, true, false}
+-- MEANING. The compile file of a library, and what the program writes (RULES, "The compile file", "The compile program").
+--   over a view          lineRoom, compileChosen, compileView
+--   over images          Compiling, compileChecked, compiling
+--   the answer           compiled, fileOf, compileInto
+--   the table's numbers  stopNumber, compiledNumber, compiledFirst, compiledSecond
+--   the program          refusedLine, cardPlace, programOf, programSpace, afterUnpacking, program
+use Prim.Native.Nat.{ℕ, _*_, _/_}
 use mathlib.Core.List.{List, [], _∷_, _++_}
 use lib.Dec.{ltb}
-use lib.ListN.{length, drop, replicate}
+use lib.ListN.{length, drop}
 use Rattle.words.specs.Base.{if_then_else_, bytes}
 use Rattle.words.specs.Display.{blank}
 use Rattle.words.specs.Names.{numeral}
-use Rattle.packing.specs.Pack.{unpacking, unpacked, packingNumber}
-use Rattle.packing.specs.declared.Packing.{Packing}
-use Rattle.packing.specs.declared.Packing.the-variants.{Done as Unpacked, Length, Tail, Space as NoSpace}
-use Rattle.library.specs.Library.{Library}
+use Rattle.words_packing.specs.Pack.{unpacking, unpacked, packingNumber}
+use Rattle.words_packing.specs.declared.Packing.{Packing}
+use Rattle.words_packing.specs.declared.Packing.the-variants.{Done as Unpacked, Length, Tail, Space as NoSpace}
 use Rattle.library.specs.Check.{Checking, good, bad, check, faultNumber}
 use Rattle.library.specs.declared.Fault.{Fault}
-use Rattle.walks.specs.View.{DeckView, view, fullChoice}
-use Rattle.walks.specs.Walk.{Walk, walked, halted, walkDecks}
-use Rattle.walks.specs.declared.Stop.{Stop}
-use Rattle.walks.specs.declared.Stop.the-variants.{NoDeck, NotCommon, Deep, Many, Space}
+use Rattle.compile_walk.specs.View.{DeckView, view, fullChoice}
+use Rattle.compile_walk.specs.Walk.{Walk, walked, halted, walkDecks}
+use Rattle.compile_walk.specs.declared.Stop.{Stop}
+use Rattle.compile_walk.specs.declared.Stop.the-variants.{NoDeck, NotCommon, Deep, Many, Space}
 use Rattle.compile.specs.declared.Compiled.{Compiled}
 use Rattle.compile.specs.declared.Compiled.the-variants.{Done, Library as OfLibrary, Refused}
 
@@ -35,17 +34,17 @@ compileChosen room ds chosen = walkDecks ds (lineRoom room) chosen [] 0
 abbrev pub compileView : ℕ → List DeckView → Walk
 compileView room ds = compileChosen room ds (fullChoice ds)
 
--- an image: "A compile checks the library first, then goes in writing order"
+-- an image: the check, then the walk, in the order of writing
 pub data Compiling : Type 0 where
   ofWalk : Walk → Compiling
   ofLibrary : Fault → ℕ → Compiling
 
-abbrev pub fromChecked : ℕ → Checking → Compiling
-fromChecked room (good l) = ofWalk (compileView room (view l))
-fromChecked room (bad f p) = ofLibrary f p
+abbrev pub compileChecked : ℕ → Checking → Compiling
+compileChecked room (good l) = ofWalk (compileView room (view l))
+compileChecked room (bad f p) = ofLibrary f p
 
 unfoldable pub compiling : List ℕ → ℕ → Compiling
-compiling image room = fromChecked room (check image)
+compiling image room = compileChecked room (check image)
 
 -- THE ANSWER, and what the lent space then holds
 abbrev pub compiled : Compiling → Compiled
@@ -62,7 +61,7 @@ compileInto (ofWalk (walked ls n)) space = fileOf ls ++ drop (length (fileOf ls)
 compileInto (ofWalk (halted k o s)) space = space
 compileInto (ofLibrary f p) space = space
 
--- 01'S NUMBERS: the row; then lines and calls, or the place, or the card's owner and number
+-- THE TABLE'S NUMBERS: the row; then lines and calls, or the place, or the card's owner and number
 abbrev pub stopNumber : Stop → ℕ
 stopNumber NoDeck = 40
 stopNumber NotCommon = 41
@@ -85,7 +84,7 @@ compiledSecond (Done n k) = k
 compiledSecond (OfLibrary f p) = 0
 compiledSecond (Refused k o s) = s
 
--- THE PROGRAM: "reads a packed library .., has space for 720 lines, and writes the file, or one line"
+-- THE PROGRAM: packed words in, and out the file, of 720 lines of 91 bytes at most, or REFUSED, the number and the place, with a blank between and byte 10 at the end
 abbrev pub refusedLine : ℕ → List ℕ → List ℕ
 refusedLine n place = bytes "REFUSED " ++ (numeral n ++ (blank ∷ (place ++ (10 ∷ []))))
 
@@ -98,7 +97,7 @@ programOf (ofWalk (halted k o s)) = refusedLine (stopNumber k) (cardPlace o s)
 programOf (ofLibrary f p) = refusedLine (faultNumber f) (numeral p)
 
 abbrev pub programSpace : ℕ
-programSpace = 65520
+programSpace = 720 * 91
 
 abbrev pub afterUnpacking : Packing → List ℕ → List ℕ
 afterUnpacking (Unpacked n) ws = programOf (compiling ws programSpace)

@@ -1,18 +1,18 @@
-// The compile file of an image: the check first, then the walk (01, "The compile file").
+// The compile file of an image: the check first, then the walk (RULES, "The compile file").
 ghost use mathlib.Core.Path.{_≡_};
 ghost use lib.ListN.{length};
-ghost use Rattle.walks.specs.TableView.{tableView};
+ghost use Rattle.compile_walk.specs.TableView.{tableView};
 ghost use Rattle.compile.specs.Compile.{compiling, compiled, compileInto, stopNumber, compiledNumber, compiledFirst, compiledSecond};
 ghost use Rattle.compile.specs.Answer.{Compiles, CompilesImage};
-use decks::TABLE;
-use decks::put_table;
+use compile_walk::Stop;
+use compile_walk::Walked;
+use compile_walk::walk_decks;
 use library::Checked;
 use library::Fault;
-use walks::Stop;
-use walks::Walked;
-use walks::walk_decks;
+use library_image_decks::TABLE;
+use library_image_decks::put_table;
 
-// 01's rows
+// rows of the table
 const DONE: u64 = 0;
 
 const NO_DECK: u64 = 40;
@@ -25,7 +25,7 @@ const MANY: u64 = 43;
 
 const SPACE: u64 = 44;
 
-// What a compile answers: lines written and calls opened; the library's fault and its place; or the row and the card.
+// What a compile answers: how many lines and calls; the library's fault and its place; or the row and the card.
 pub enum Compiled {
     Done(usize, usize),
     Library(Fault, usize),
@@ -61,12 +61,12 @@ fn compile_sound(image: &[u64], out: &mut [u8]) -> Compiled
     compile_table(image, &table[..n], out)
 }
 
-// "A compile checks the library first, then goes in writing order".
+// The check of the image, then the walk.
 pub fn compile(image: &[u64], out: &mut [u8]) -> Compiled
     ensures answer { λ r. ⌜ r ≡ compiled (compiling (now (image .entry)) (length (now (out .entry)))) ⌝ }
     ensures space { λ _. ⌜ now (out .exit) ≡ compileInto (compiling (now (image .entry)) (length (now (out .entry)))) (now (out .entry)) ⌝ }
 {
-    match checks::check(image) {
+    match library_check::check(image) {
         Checked::Sound => compile_sound(image, out),
         Checked::Refused(fault, place) => Compiled::Library(fault, place),
     }
@@ -84,7 +84,7 @@ fn stop_number(stop: Stop) -> u64
     }
 }
 
-// 01's number of an answer; 0 where the file was written.
+// The table's number of an answer; 0 where the file was written.
 pub fn compiled_number(c: Compiled) -> u64
     ensures { λ r. ⌜ r ≡ compiledNumber c ⌝ }
 {

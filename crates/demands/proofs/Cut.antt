@@ -1,4 +1,4 @@
--- B3: every part leaves a sound library, whose image the next run reads as that library, and a unit line knows nothing else of what is ahead of it.
+-- B3: a stream cut ahead of units and run part after part gives the library or the refusal of the whole.
 use Prim.Native.Nat.{ℕ, suc, _+_, _≤_}
 use native.Mathlib.Omega.{arith}
 use native.Mathlib.Nat.{zero-add, add-suc}
@@ -9,24 +9,24 @@ use lib.Dec.{T}
 use lib.ListN.{length, length-append}
 use borrow.Author.Tests.{le-ltb}
 use Rattle.words.specs.Base.{if_then_else_}
-use Rattle.lines.specs.Directive.{lines}
-use Rattle.lines.specs.LineEnds.{endsLine}
-use Rattle.lines.proofs.LinesAppend.{lines-append}
+use Rattle.words_lines.specs.Directive.{lines}
+use Rattle.words_lines.specs.LineEnds.{endsLine}
+use Rattle.words_lines.proofs.LinesAppend.{lines-append}
 use Rattle.library.specs.Library.{Library}
 use Rattle.library.specs.Image.{encode}
 use Rattle.library.specs.Check.{Checking, good, bad, check}
 use Rattle.library.specs.declared.Fault.{Fault}
 use Rattle.library.specs.Sound.{Sound}
-use Rattle.library.proofs.Each.{and-parts}
+use Rattle.library.proofs.EachTest.{and-parts}
 use Rattle.library.proofs.CheckSound.{check-sound}
 use Rattle.library.proofs.EncodeCheck.{encode-check}
-use Rattle.corrections.specs.Step.{State, Step, went, refused, start, step}
-use Rattle.corrections.specs.Run.{Steps, ended, stopped, onward, steps, updated, notUpdated, fitted, update, Running, newLibrary, badLibrary, badStream, fromUpdated, fromChecked, running}
-use Rattle.corrections.specs.declared.Why.the-variants.{Stream, Space}
-use Rattle.corrections.specs.Cut.{beginsUnit, andAnew}
-use Rattle.corrections.proofs.Went.{Ended}
-use Rattle.corrections.proofs.StepsCut.{steps-cut}
-use Rattle.corrections.proofs.Kept.{steps-sound, sound-short}
+use Rattle.run_meaning.specs.Step.{State, Step, went, refused, start, step}
+use Rattle.run_meaning.specs.Run.{Steps, ended, stopped, onward, steps, updated, notUpdated, fitted, update, Running, newLibrary, badLibrary, badStream, fromUpdated, runChecked, running}
+use Rattle.run_meaning.specs.declared.Why.the-variants.{Stream, Space}
+use Rattle.run_meaning.specs.Cut.{beginsUnit, andAnew}
+use Rattle.run_meaning.proofs.HoldsThrough.{Ended}
+use Rattle.run_meaning.proofs.StepsCut.{steps-cut}
+use Rattle.run_meaning.proofs.Kept.{steps-sound, sound-short}
 use Rattle.demands.specs.Cut.{whole, isCut, counted, goOn, runParts, B3}
 
 -- THE ANSWER OF LINES, where there is room for every library
@@ -74,7 +74,7 @@ module _ (image : List ℕ) (old : Library) (accepted : check image ≡ good old
   running-answered : (m : ℕ) (x : List ℕ) → length x ≤ 262144 → counted m (running image x 65536) ≡ answered (steps (start old) (m + 1) (lines x))
   unfolding running
   running-answered m x le =
-      ap (λ (c : Checking). counted m (fromChecked c x 65536)) accepted
+      ap (λ (c : Checking). counted m (runChecked c x 65536)) accepted
       ∙ ap (counted m) (update-answered old (check-sound image old accepted) x le)
       ∙ sym (steps-counted m (start old) 1 (lines x))
 
@@ -112,7 +112,7 @@ counted-none (badStream w k) = ap (badStream w) (zero-add k)
 -- an image that is refused is refused with the first part
 running-refused : (image x : List ℕ) (f : Fault) (p : ℕ) → check image ≡ bad f p → running image x 65536 ≡ badLibrary f p
 unfolding running
-running-refused image x f p e = ap (λ (c : Checking). fromChecked c x 65536) e
+running-refused image x f p e = ap (λ (c : Checking). runChecked c x 65536) e
 
 parts-refused : (image : List ℕ) (f : Fault) (p : ℕ) → check image ≡ bad f p → (ps : List (List ℕ)) → runParts image 0 ps ≡ badLibrary f p
 parts-refused image f p e [] = ap (counted 0) (running-refused image [] f p e)

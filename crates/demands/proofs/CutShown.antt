@@ -1,4 +1,4 @@
--- The shown stream in parts, and the streams that are not cut, by computation; the one that is too long, by its length.
+-- B3 is met by the shown stream in parts, and without any one of its hypotheses it can fail.
 use Prim.Native.Nat.{ℕ, zero, suc, _+_, _<_}
 use native.Mathlib.Omega.{arith}
 use mathlib.Core.Path.{_≡_, refl, sym, ap, _∙_, subst}
@@ -11,32 +11,33 @@ use Rattle.words.specs.Base.{if_then_else_}
 use Rattle.words.specs.Display.{codeOf, letter}
 use Rattle.words.specs.Names.{isName, nameWord, nameOf, isNameWord, isNumber, numeral, leftJustified, rightJustified}
 use Rattle.words.specs.Text.{blanks, wordsOf, textWords, says, isText}
-use Rattle.lines.specs.Directive.{lineOf, afterLine, lines, kindOf, nameOfLine, kindOfLine, field, isClean, isCard, cardOf, asked, directive, yankNames, callOf}
-use Rattle.lines.specs.LineEnds.{endsLine}
+use Rattle.words_lines.specs.Directive.{lines, kindOf, nameOfLine, kindOfLine, field, isClean, isCard, cardNamed, asked, directive, yankNames, callOf}
+use Rattle.words_lines.specs.FirstLine.{lineOf, afterLine}
+use Rattle.words_lines.specs.LineEnds.{endsLine}
 use Rattle.library.specs.Check.{Checking, check}
 use Rattle.library.specs.Image.{cardWords, encode, withinLimits}
 use Rattle.library.specs.Library.{fresh, stream, entryOf, deckNames, deckLine}
 use Rattle.library.specs.Yanks.{active, targets, yanksOf, settledYanks, yanked}
-use Rattle.words.proofs.Tests.{and-both}
+use Rattle.words.proofs.TestParts.{and-both}
 use Rattle.library.proofs.CheckSound.{fresh-sound}
 use Rattle.library.proofs.EncodeCheck.{encode-check}
-use Rattle.corrections.specs.Step.{start, find, step}
-use Rattle.corrections.specs.Run.{steps, notUpdated, fitted, update, Running, badStream, fromUpdated, fromChecked, running}
-use Rattle.corrections.specs.declared.Why.the-variants.{Stream, Nowhere}
-use Rattle.corrections.specs.Cut.{beginsUnit}
+use Rattle.run_meaning.specs.Step.{start, find, step}
+use Rattle.run_meaning.specs.Run.{steps, notUpdated, fitted, update, Running, badStream, fromUpdated, runChecked, running}
+use Rattle.run_meaning.specs.declared.Why.the-variants.{Stream, Nowhere}
+use Rattle.run_meaning.specs.Cut.{beginsUnit}
 use Rattle.compile.specs.Compile.{compiling}
-use Rattle.walks.specs.View.{view}
-use Rattle.walks.specs.Walk.{printed, lookUp}
+use Rattle.compile_walk.specs.View.{view}
+use Rattle.compile_walk.specs.Walk.{printed, calledDeck}
 use Rattle.demands.specs.Shown.{streamOf}
 use Rattle.demands.specs.Cut.{whole, isCut, counted, goOn, runParts}
 use Rattle.demands.specs.CutShown.{ShownCut, differ, NoneSpareCut, longParts, SizeNeeded}
 
 pub shown-cut : ShownCut
-unfolding codeOf letter isName nameWord nameOf isNameWord isNumber numeral leftJustified rightJustified blanks wordsOf textWords says isText lineOf afterLine lines kindOf nameOfLine kindOfLine field isClean isCard cardOf asked directive yankNames callOf check cardWords encode withinLimits stream entryOf deckNames deckLine active targets yanksOf settledYanks yanked update running find step compiling view printed lookUp
+unfolding codeOf letter isName nameWord nameOf isNameWord isNumber numeral leftJustified rightJustified blanks wordsOf textWords says isText lineOf afterLine lines kindOf nameOfLine kindOfLine field isClean isCard cardNamed asked directive yankNames callOf check cardWords encode withinLimits stream entryOf deckNames deckLine active targets yanksOf settledYanks yanked update running find step compiling view printed calledDeck
 shown-cut = record { cut = tt; stream = tt; size = omega arith; compiled = tt; cutToo = tt; refused = tt }
 
 pub none-spare-cut : NoneSpareCut
-unfolding codeOf letter isName nameWord nameOf isNameWord isNumber numeral blanks wordsOf textWords says isText lineOf afterLine lines kindOf nameOfLine kindOfLine field isClean isCard cardOf asked directive yankNames check cardWords encode withinLimits stream entryOf deckNames deckLine active targets yanksOf settledYanks yanked update running find step NoneSpareCut
+unfolding codeOf letter isName nameWord nameOf isNameWord isNumber numeral blanks wordsOf textWords says isText lineOf afterLine lines kindOf nameOfLine kindOfLine field isClean isCard cardNamed asked directive yankNames check cardWords encode withinLimits stream entryOf deckNames deckLine active targets yanksOf settledYanks yanked update running find step NoneSpareCut
 none-spare-cut = tt
 
 -- TOO LONG: blank lines, of which the first is refused, ahead of a part that begins with a unit line
@@ -54,7 +55,7 @@ cut-long n = and-both (endsLine (replicate n 10)) (beginsUnit (lines pump) && tr
 
 running-fresh : (x : List ℕ) → running (encode fresh) x 65536 ≡ fromUpdated (update fresh x 65536)
 unfolding running
-running-fresh x = ap (λ (c : Checking). fromChecked c x 65536) (encode-check fresh fresh-sound)
+running-fresh x = ap (λ (c : Checking). runChecked c x 65536) (encode-check fresh fresh-sound)
 
 -- a stream that is too long, and one that begins with a blank line
 running-long : (x : List ℕ) → 262144 < length x → running (encode fresh) x 65536 ≡ badStream Stream 0

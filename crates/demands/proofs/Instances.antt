@@ -1,4 +1,4 @@
--- The shown sets meet the hypotheses of B1 and B2, and each attempt fails, by computation.
+-- B1 and B2 are met by the shown sets, and without any one of their hypotheses they can fail.
 use Prim.Native.Nat.{ℕ}
 use mathlib.Core.Path.{_≡_, refl}
 use mathlib.Core.List.{List, [], _∷_}
@@ -6,16 +6,17 @@ use lib.Dec.{T}
 use Rattle.words.specs.Display.{codeOf, letter}
 use Rattle.words.specs.Names.{isName, nameWord, nameOf, isNameWord, isNumber, numeral, leftJustified, rightJustified}
 use Rattle.words.specs.Text.{blanks, wordsOf, textWords, says, isText}
-use Rattle.lines.specs.Directive.{lineOf, afterLine, lines, kindOf, nameOfLine, kindOfLine, field, isClean, isCard, cardOf, asked, directive, yankNames, callOf}
+use Rattle.words_lines.specs.Directive.{lines, kindOf, nameOfLine, kindOfLine, field, isClean, isCard, cardNamed, asked, directive, yankNames, callOf}
+use Rattle.words_lines.specs.FirstLine.{lineOf, afterLine}
 use Rattle.library.specs.Check.{check}
 use Rattle.library.specs.Image.{cardWords, encode, withinLimits}
 use Rattle.library.specs.Library.{stream, entryOf, deckNames, deckLine}
 use Rattle.library.specs.Yanks.{active, targets, yanksOf, settledYanks, yanked}
-use Rattle.corrections.specs.Run.{Running, newLibrary, badLibrary, badStream, update, running}
-use Rattle.corrections.specs.Step.{find, step}
+use Rattle.run_meaning.specs.Run.{Running, newLibrary, badLibrary, badStream, update, running}
+use Rattle.run_meaning.specs.Step.{find, step}
 use Rattle.compile.specs.Compile.{compiling}
-use Rattle.walks.specs.View.{view}
-use Rattle.walks.specs.Walk.{printed, lookUp}
+use Rattle.compile_walk.specs.View.{view}
+use Rattle.compile_walk.specs.Walk.{printed, calledDeck}
 use Rattle.demands.specs.Demands.{Runs, noRun, oneRun}
 use Rattle.demands.specs.Instances.{one, two, three, writtenBy, wroteOne, ranOn, written, before, corrected, back, ShownBack, NoneSpare}
 
@@ -28,7 +29,7 @@ run-written : (image x : List ℕ) → T (wroteOne (ranOn image x)) → Runs ima
 run-written image x t = oneRun 65536 (writtenBy (ranOn image x)) (wrote-one (ranOn image x) t) noRun
 
 pub shown-back : ShownBack
-unfolding codeOf letter isName nameWord nameOf isNameWord isNumber numeral leftJustified rightJustified blanks wordsOf textWords says isText lineOf afterLine lines kindOf nameOfLine kindOfLine field isClean isCard cardOf asked directive yankNames callOf check cardWords encode withinLimits stream entryOf deckNames deckLine active targets yanksOf settledYanks yanked update running find step compiling view printed lookUp
+unfolding codeOf letter isName nameWord nameOf isNameWord isNumber numeral leftJustified rightJustified blanks wordsOf textWords says isText lineOf afterLine lines kindOf nameOfLine kindOfLine field isClean isCard cardNamed asked directive yankNames callOf check cardWords encode withinLimits stream entryOf deckNames deckLine active targets yanksOf settledYanks yanked update running find step compiling view printed calledDeck
 shown-back = record {
   sets = record { runs = run-written before one tt; sets = (tt, tt) };
   yanked = record { runs = run-written corrected two tt; yanks = tt; exactly = tt };
@@ -38,5 +39,5 @@ shown-back = record {
 }
 
 pub none-spare : NoneSpare
-unfolding codeOf letter isName nameWord nameOf isNameWord isNumber numeral leftJustified rightJustified blanks wordsOf textWords says isText lineOf afterLine lines kindOf nameOfLine kindOfLine field isClean isCard cardOf asked directive yankNames callOf check cardWords encode withinLimits stream entryOf deckNames deckLine active targets yanksOf settledYanks yanked update running find step compiling view printed lookUp NoneSpare
+unfolding codeOf letter isName nameWord nameOf isNameWord isNumber numeral leftJustified rightJustified blanks wordsOf textWords says isText lineOf afterLine lines kindOf nameOfLine kindOfLine field isClean isCard cardNamed asked directive yankNames callOf check cardWords encode withinLimits stream entryOf deckNames deckLine active targets yanksOf settledYanks yanked update running find step compiling view printed calledDeck NoneSpare
 none-spare = tt

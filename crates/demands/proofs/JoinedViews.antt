@@ -1,4 +1,4 @@
--- One view after another: the decks that a card calls are found where they were, so the lines of both are written, one after another.
+-- One view after another: called decks are found where they were, so the lines of both are written.
 use Prim.Native.Nat.{ℕ, _+_}
 use mathlib.Core.Path.{_≡_, refl, sym, ap, _∙_, subst}
 use mathlib.Core.Bool.{Bool, true, false, _||_, not}
@@ -6,10 +6,10 @@ use mathlib.Core.List.{List, [], _∷_, _++_, map}
 use lib.Dec.{T, eqb}
 use Rattle.words.specs.Base.{if_then_else_, member}
 use Rattle.library.specs.Library.{reserved}
-use Rattle.walks.specs.View.{Shown, DeckView, fullChoice}
-use Rattle.walks.specs.Walk.{printed, Found, missing, notCommon, common, foundIn, lookIn, lookUp}
+use Rattle.compile_walk.specs.View.{Shown, DeckView, fullChoice}
+use Rattle.compile_walk.specs.Walk.{printed, Found, missing, notCommon, common, foundIn, lookIn, calledDeck}
 use Rattle.demands.specs.MergedFile.{raiseShown, raiseView}
-use Rattle.walks.proofs.Writes.{WritesDecks, writes-append, writes-other}
+use Rattle.compile_walk.proofs.WalkWrites.{WritesDecks, writes-append, writes-other}
 use Rattle.demands.proofs.MergedView.{choice-append, choice-raise}
 
 -- DECKS BY NAME
@@ -79,16 +79,16 @@ module _ (ds es : List DeckView) (k : ℕ) (past : (w : ℕ) (cs : List Shown) �
   abbrev both : List DeckView
   both = ds ++ map (raiseView k) es
 
-  looks-first : (w : ℕ) (cs : List Shown) → lookUp w ds ≡ common cs → lookUp w both ≡ common (map (λ c. c) cs)
-  unfolding lookUp
+  looks-first : (w : ℕ) (cs : List Shown) → calledDeck w ds ≡ common cs → calledDeck w both ≡ common (map (λ c. c) cs)
+  unfolding calledDeck
   looks-first w cs e = go (eqb w reserved) e ∙ ap common (sym (map-same cs))
     where
       go : (b : Bool) → (if b then notCommon else lookIn w ds) ≡ common cs → (if b then notCommon else lookIn w both) ≡ common cs
       go true u = u
       go false u = look-more w ds (map (raiseView k) es) cs u
 
-  looks-second : (w : ℕ) (cs : List Shown) → lookUp w es ≡ common cs → lookUp w both ≡ common (map (raiseShown k) cs)
-  unfolding lookUp raiseFound
+  looks-second : (w : ℕ) (cs : List Shown) → calledDeck w es ≡ common cs → calledDeck w both ≡ common (map (raiseShown k) cs)
+  unfolding calledDeck raiseFound
   looks-second w cs e = go (eqb w reserved) e
     where
       go : (b : Bool) → (if b then notCommon else lookIn w es) ≡ common cs → (if b then notCommon else lookIn w both) ≡ common (map (raiseShown k) cs)

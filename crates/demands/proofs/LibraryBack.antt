@@ -1,4 +1,4 @@
--- The rollback of a library: after sets and the set that yanks each of them, the view is the one from before.
+-- After sets and the set that yanks each of them, the view of a library is the one from before.
 use Prim.Native.Nat.{ℕ, suc, _+_}
 use native.Mathlib.Omega.{arith}
 use mathlib.Core.Path.{_≡_, refl, sym, ap, _∙_, subst}
@@ -10,19 +10,19 @@ use Rattle.library.specs.Library.{Library}
 use Rattle.library.specs.Yanks.{Target}
 use Rattle.library.specs.Growth.{count, sameNames, Growth}
 use Rattle.library.specs.Sound.{Sound}
-use Rattle.library.proofs.Growth.{growth-refl}
+use Rattle.library.proofs.GrowthSteps.{growth-refl}
 use Rattle.library.proofs.Rollback.{allActs, OwnCard, TakesBack}
-use Rattle.library.proofs.Acts.{names-take-back}
-use Rattle.corrections.specs.Step.{State, start, withEntry}
-use Rattle.corrections.specs.Run.{ended, steps}
-use Rattle.corrections.specs.Units.{setsOf, yankedNames, isYankingSet}
-use Rattle.corrections.proofs.Went.{ended-is}
-use Rattle.corrections.proofs.YankingSet.{actsOn, Yanking, YankedBySet, yanking-ended, sets-names}
-use Rattle.corrections.proofs.Updates.{steps-growth, steps-decks}
-use Rattle.corrections.proofs.SameDecks.{HasDecks}
-use Rattle.corrections.proofs.Kept.{steps-sound}
-use Rattle.walks.specs.View.{view}
-use Rattle.walks.proofs.ViewBack.{takenBack, view-back}
+use Rattle.library.proofs.YankTargets.{names-take-back}
+use Rattle.run_meaning.specs.Step.{State, start, withEntry}
+use Rattle.run_meaning.specs.Run.{ended, steps}
+use Rattle.run_meaning.specs.Units.{setsOf, yankedNames, isYankingSet}
+use Rattle.run_meaning.proofs.HoldsThrough.{ended-is}
+use Rattle.run_meaning.proofs.YankingSet.{actsOn, Yanking, YankedBySet, yanking-ended, sets-names}
+use Rattle.run_meaning.proofs.UpdateGrowth.{steps-growth, steps-decks}
+use Rattle.run_meaning.proofs.SameDecks.{HasDecks}
+use Rattle.run_meaning.proofs.Kept.{steps-sound}
+use Rattle.compile_walk.specs.View.{view}
+use Rattle.compile_walk.proofs.ViewBack.{takenBack, view-back}
 use Rattle.demands.specs.Demands.{LibraryBack}
 
 module _ (old : Library) (ns : List ℕ) (corrected : Library) (g : Growth old ns corrected) where

@@ -1,26 +1,26 @@
--- What a compile file sees of a merged library: the first's decks and then the second's, each card as active as it was, under its owner's name.
-use Prim.Native.Nat.{ℕ, zero, suc, _+_, _≤_, _<_}
+-- A compile file sees of a merged library the first's decks and then the second's, each card as active.
+use Prim.Native.Nat.{ℕ, _+_, _≤_, _<_}
 use mathlib.Core.Path.{_≡_, refl, sym, ap, ap₂, _∙_}
 use mathlib.Core.Bool.{Bool, true, false}
 use mathlib.Core.List.{List, [], _∷_, _++_, map}
 use lib.ListN.{length}
 use Rattle.words.specs.Base.{if_then_else_}
 use Rattle.library.specs.Each.{Each}
-use Rattle.library.specs.Library.{Card, Deck, Library, history, nameAt}
+use Rattle.library.specs.Library.{Card, Deck, history, nameAt}
 use Rattle.library.specs.Yanks.{active, yanked}
 use Rattle.library.specs.Growth.{Within}
 use Rattle.library.specs.Sound.{SoundCard, SoundDeck}
-use Rattle.library.proofs.Each.{each-map}
-use Rattle.library.proofs.Acts.{card-numbers, deck-number}
-use Rattle.library.proofs.Directories.{name-append}
-use Rattle.walks.specs.View.{Shown, DeckView, shownCard, shown, viewDecks, view, fullChoice}
+use Rattle.library.proofs.EachTest.{each-map}
+use Rattle.library.proofs.YankTargets.{card-numbers, deck-number}
+use Rattle.library.proofs.NameAtEnd.{name-append}
+use Rattle.compile_walk.specs.View.{Shown, DeckView, shownCard, shown, viewDecks, view, fullChoice}
 use Rattle.library_raise.specs.RaisedCards.{raiseCard, raiseDeck}
 use Rattle.merge_meaning.specs.Merge.{merge}
-use Rattle.merge_meaning.specs.Merged.{Mergeable, raiseDeckNumber}
+use Rattle.merge_meaning.specs.Merged.{raiseDeckNumber}
 use Rattle.demands.specs.MergedFile.{raiseShown, raiseView, ViewMerged}
-use Rattle.library.proofs.Beyond.{name-beyond}
+use Rattle.library.proofs.NumbersBeyond.{name-beyond}
 use Rattle.merge_meaning.proofs.MergedFlags.{positive, counted, yanked-first, yanked-raised}
-use Rattle.library_raise.proofs.RaisedCards.{active-raised}
+use Rattle.library_raise.proofs.RaisedCardWords.{active-raised}
 use Rattle.merge_meaning.proofs.MergedImage.{active-agree, raised-number}
 
 -- THE FIRST'S

@@ -1,10 +1,10 @@
--- B1 and B2: each run goes on from the library that the last one made, which is a growth of the first; the set that yanks all of it brings back the view.
+-- B1 and B2: the set that yanks all sets of any number of runs brings back the view.
 use Prim.Native.Nat.{ℕ}
 use mathlib.Core.Path.{_≡_, refl, sym, ap, _∙_, subst}
 use mathlib.Core.List.{List, [], _∷_, _++_, append-nil, append-assoc}
 use lib.Dec.{T}
 use lib.ListN.{length}
-use Rattle.lines.specs.Directive.{lines}
+use Rattle.words_lines.specs.Directive.{lines}
 use Rattle.library.specs.Each.{Each}
 use Rattle.library.specs.Library.{Library}
 use Rattle.library.specs.Image.{encode}
@@ -13,17 +13,17 @@ use Rattle.library.specs.Growth.{sameNames, Growth}
 use Rattle.library.specs.Sound.{Sound}
 use Rattle.library.proofs.CheckSound.{check-sound}
 use Rattle.library.proofs.EncodeCheck.{encode-check}
-use Rattle.library.proofs.Growth.{growth-refl}
-use Rattle.corrections.specs.Run.{updated, update, newLibrary, running}
-use Rattle.corrections.specs.Units.{setsOf, yankedNames, onlySets, isYankingSet}
-use Rattle.corrections.proofs.StepSound.{update-sound}
-use Rattle.corrections.proofs.RunFrom.{RanFrom, run-from, good-is}
-use Rattle.corrections.proofs.Updates.{EndsIn, update-ends, update-growth, update-decks}
-use Rattle.corrections.proofs.YankingSet.{yanking-sets, sets-names}
-use Rattle.walks.specs.View.{view}
+use Rattle.library.proofs.GrowthSteps.{growth-refl}
+use Rattle.run_meaning.specs.Run.{updated, update, newLibrary, running}
+use Rattle.run_meaning.specs.Units.{setsOf, yankedNames, onlySets, isYankingSet}
+use Rattle.run_meaning.proofs.StepSound.{update-sound}
+use Rattle.run_meaning.proofs.AcceptedRun.{RanFrom, run-from, good-is}
+use Rattle.run_meaning.proofs.UpdateGrowth.{EndsIn, update-ends, update-growth, update-decks}
+use Rattle.run_meaning.proofs.YankingSet.{yanking-sets, sets-names}
+use Rattle.compile_walk.specs.View.{view}
 use Rattle.compile.specs.Compile.{compileView, compiling, ofWalk}
 use Rattle.demands.specs.Demands.{Runs, noRun, oneRun, setsIn, TakenBack, B1, B2}
-use Rattle.demands.proofs.Answers.{compile-good}
+use Rattle.demands.proofs.InactiveText.{compile-good}
 use Rattle.demands.proofs.LibraryBack.{growth-back}
 
 -- the image that the first of two rows of runs reads is accepted

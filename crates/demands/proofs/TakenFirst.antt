@@ -1,24 +1,24 @@
--- M5 for a set that yanks sets of the first: it acts by the same numbers in the first and in the merged library.
+-- M5 for a set that yanks sets of the first: it acts by the same numbers there and in the merged library.
 use Prim.Native.Nat.{ℕ, suc, _+_, _≤_, _<_}
 use native.Mathlib.Omega.{arith}
 use mathlib.Core.Path.{_≡_, refl, sym, ap, _∙_, subst}
 use mathlib.Core.Bool.{Bool, false, _||_}
 use mathlib.Core.List.{List, [], _∷_, _++_, map, append-assoc}
 use lib.ListN.{length}
+use Rattle.words.proofs.TestParts.{or-false}
 use Rattle.words.specs.Base.{any}
 use Rattle.library.specs.Library.{Library, deckNames}
 use Rattle.library.specs.Yanks.{covers, yankedBy, yanked}
-use Rattle.library.proofs.Anys.{or-false}
-use Rattle.library.proofs.Flags.{yankList, flags, yanked-rule, flags-solve}
-use Rattle.corrections.proofs.YankingSet.{actsOn}
-use Rattle.walks.specs.View.{DeckView, view}
-use Rattle.walks.proofs.ViewBack.{takenBack}
+use Rattle.library.proofs.SettledFlags.{yankList, flags, yanked-rule, flags-solve}
+use Rattle.run_meaning.proofs.YankingSet.{actsOn}
+use Rattle.compile_walk.specs.View.{DeckView, view}
+use Rattle.compile_walk.proofs.ViewBack.{takenBack}
 use Rattle.merge_meaning.specs.Merge.{merge}
 use Rattle.merge_meaning.specs.Merged.{Mergeable, raiseDeckNumber}
 use Rattle.demands.specs.MergedFile.{raiseView}
 use Rattle.demands.specs.MergedYank.{Taken}
-use Rattle.merge_meaning.proofs.Raised.{first-high}
-use Rattle.demands.proofs.YankedIn.{acts-append, Ran, ran-known, ran-lower, ran-yanked, ran-solves, after-first, after-second}
+use Rattle.merge_meaning.proofs.RaisedStaysSound.{first-high}
+use Rattle.demands.proofs.MergedYankFlags.{acts-append, Ran, ran-known, ran-lower, ran-yanked, ran-solves, after-first, after-second}
 use Rattle.demands.proofs.TakenViews.{own-free, active-first, active-second, view-end, view-after, turned-first, turned-second}
 
 module _ (l m : Library) (q : Mergeable l m) (ws : List ℕ) (taken new : Library) (a : Ran l ws taken) (r : Ran (merge l m) ws new) where

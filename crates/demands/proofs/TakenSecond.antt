@@ -5,24 +5,24 @@ use mathlib.Core.Bool.{Bool, false, _||_}
 use mathlib.Core.List.{List, [], _∷_, _++_, map}
 use lib.Dec.{T}
 use lib.ListN.{length}
+use Rattle.words.proofs.TestParts.{or-false}
 use Rattle.words.specs.Base.{any}
 use Rattle.words.specs.Names.{isNameWord}
 use Rattle.library.specs.Each.{Each}
 use Rattle.library.specs.Library.{Library, deckNames}
 use Rattle.library.specs.Yanks.{covers, yankedBy, yanked}
 use Rattle.library.specs.Growth.{count}
-use Rattle.library.proofs.Anys.{or-false}
-use Rattle.library.proofs.Flags.{yankList, flags, yanked-rule, flags-solve}
-use Rattle.corrections.proofs.YankingSet.{actsOn}
-use Rattle.walks.specs.View.{DeckView, view}
-use Rattle.walks.proofs.ViewBack.{takenBack}
+use Rattle.library.proofs.SettledFlags.{yankList, flags, yanked-rule, flags-solve}
+use Rattle.run_meaning.proofs.YankingSet.{actsOn}
+use Rattle.compile_walk.specs.View.{DeckView, view}
+use Rattle.compile_walk.proofs.ViewBack.{takenBack}
 use Rattle.merge_meaning.specs.Merge.{merge}
 use Rattle.merge_meaning.specs.Merged.{Mergeable, raiseDeckNumber}
 use Rattle.demands.specs.MergedFile.{raiseView}
 use Rattle.demands.specs.MergedYank.{Taken}
-use Rattle.merge_meaning.proofs.Raised.{raiseTarget, any-raise, raise-low}
-use Rattle.merge_meaning.proofs.Soundness.{apart}
-use Rattle.demands.proofs.YankedIn.{acts-append, acts-raise, Ran, ran-known, ran-lower, ran-free, ran-yanked, ran-solves, after-first, after-second}
+use Rattle.merge_meaning.proofs.RaisedStaysSound.{raiseTarget, any-raise, raise-low}
+use Rattle.merge_meaning.proofs.MergedSound.{apart}
+use Rattle.demands.proofs.MergedYankFlags.{acts-append, acts-raise, Ran, ran-known, ran-lower, ran-free, ran-yanked, ran-solves, after-first, after-second}
 use Rattle.demands.proofs.TakenViews.{active-first, active-second, view-end, view-after, turned-first, turned-second}
 
 module _ (l m : Library) (q : Mergeable l m) (ws : List ℕ) (names : Each (λ w. T (isNameWord w)) ws) (taken new : Library) (a : Ran m ws taken) (r : Ran (merge l m) ws new) where

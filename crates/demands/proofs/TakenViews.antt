@@ -1,4 +1,4 @@
--- From what is yanked in a merged library after one more set to which cards are active there, and to what a compile file sees.
+-- What is yanked in a merged library after one more set decides which cards are active and what is seen.
 use Prim.Native.Nat.{ℕ, suc, _+_, _≤_, _<_}
 use native.Mathlib.Omega.{arith}
 use mathlib.Core.Path.{_≡_, refl, ap, ap₂, _∙_}
@@ -9,19 +9,19 @@ use Rattle.library.specs.Library.{Card, Library, history}
 use Rattle.library.specs.Yanks.{active, yanked}
 use Rattle.library.specs.Growth.{count}
 use Rattle.library.specs.Sound.{SoundCard, Sound}
-use Rattle.library.proofs.Each.{each-map}
-use Rattle.library.proofs.Directories.{deck-append}
-use Rattle.library.proofs.Flags.{flags, flags-yanked}
-use Rattle.corrections.proofs.FlatFlags.{above-free}
-use Rattle.walks.specs.View.{DeckView, viewDecks, view}
-use Rattle.walks.proofs.ViewBack.{takenBack}
+use Rattle.library.proofs.EachTest.{each-map}
+use Rattle.library.proofs.NameAtEnd.{deck-append}
+use Rattle.library.proofs.SettledFlags.{flags, flags-yanked}
+use Rattle.run_meaning.proofs.FlatFlags.{above-free}
+use Rattle.compile_walk.specs.View.{DeckView, viewDecks, view}
+use Rattle.compile_walk.proofs.ViewBack.{takenBack}
 use Rattle.library_raise.specs.RaisedCards.{raiseCard, raiseDeck}
 use Rattle.merge_meaning.specs.Merge.{merge}
 use Rattle.merge_meaning.specs.Merged.{Mergeable, raiseDeckNumber}
 use Rattle.demands.specs.MergedFile.{raiseView}
 use Rattle.demands.specs.MergedYank.{turned}
 use Rattle.merge_meaning.proofs.MergedFlags.{positive, counted, yanked-first, yanked-raised}
-use Rattle.library_raise.proofs.RaisedCards.{active-raised}
+use Rattle.library_raise.proofs.RaisedCardWords.{active-raised}
 use Rattle.merge_meaning.proofs.MergedImage.{active-agree}
 use Rattle.demands.proofs.MergedView.{decks-first, decks-second, view-append}
 

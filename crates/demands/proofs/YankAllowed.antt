@@ -1,22 +1,23 @@
--- A set that only yanks is refused by nothing but a limit where its name is new and each name on its lines is a set's; and so it is on a merged library where it was accepted on one of the
+-- A set that only yanks known sets under a new name is refused for a limit alone, on a merged library too.
 -- two and the other lacks its name.
 --   Yankable, allowed-set       of one library
 --   was-new, was-yankable       what an acceptance says
 --   first-new, second-new, first-yankable, second-yankable   of two
 --   allowed-first, allowed-second
-use Prim.Native.Nat.{ℕ, zero, suc, _+_, _≤_, _<_}
+use Prim.Native.Nat.{ℕ, suc, _+_, _≤_, _<_}
 use native.Mathlib.Omega.{arith}
 use mathlib.Core.Path.{_≡_, refl, sym, ap, ap₂, _∙_, subst}
 use mathlib.Core.Bool.{Bool, true, false, _&&_, _||_, not}
-use mathlib.Core.List.{List, [], _∷_, _++_, map}
-use borrow.Author.Tests.{ne-eqb, eqb-false}
-use lib.Dec.{T, eqb, ltb, eqb→eq, T-not, not-T}
+use mathlib.Core.List.{List, [], _∷_, _++_}
+use borrow.Author.Tests.{ne-eqb}
+use lib.Dec.{T, eqb, ltb, eqb→eq}
 use lib.ListN.{length, length-append}
+use Rattle.words.proofs.TestParts.{not-true, or-true}
 use Rattle.words.specs.Base.{if_then_else_, any, member}
 use Rattle.words.specs.Names.{isNameWord}
-use Rattle.lines.specs.Directive.{lines, directive, yankNames}
-use Rattle.lines.specs.declared.Line.{Line}
-use Rattle.lines.specs.declared.Line.the-variants.{Text, Skipped, Deck, Comdeck, Ident, Insert, Before, Delete, Restore, Yank as YankLine, Outside, Long, Malformed, NotCarried}
+use Rattle.words_lines.specs.Directive.{lines, directive, yankNames}
+use Rattle.words_lines.specs.declared.Line.{Line}
+use Rattle.words_lines.specs.declared.Line.the-variants.{Text, Skipped, Deck, Comdeck, Ident, Insert, Before, Delete, Restore, Yank as YankLine, Outside, Long, Malformed, NotCarried}
 use Rattle.library.specs.Each.{Each}
 use Rattle.library.specs.Library.{Card, Library, nameAt, entryOf, entryFrom, deckNames, reserved}
 use Rattle.library.specs.Yanks.{wholeSet}
@@ -24,30 +25,30 @@ use Rattle.library.specs.Image.{encode, withinLimits}
 use Rattle.library.specs.Check.{Checking, good, check, okTarget}
 use Rattle.library.specs.Growth.{count}
 use Rattle.library.specs.Sound.{Sound}
-use Rattle.library.proofs.Each.{each-map, each-two, and-parts, each-under-map}
-use Rattle.library.proofs.Appends.{each-parts}
-use Rattle.library.proofs.Anys.{any-false, or-true, no-true}
+use Rattle.library.proofs.EachTest.{each-map, each-two, and-parts, each-under-map}
+use Rattle.library.proofs.AppendedLists.{each-parts}
+use Rattle.library.proofs.AnyAndAll.{any-false, no-true}
 use Rattle.library.proofs.NoTwo.{none-any}
 use Rattle.library.proofs.CheckSound.{check-sound}
 use Rattle.library.proofs.NewEntries.{entry-append}
-use Rattle.library.proofs.Directories.{entry-none, entry-some, name-append, deck-names-append}
+use Rattle.library.proofs.NameAtEnd.{entry-none, entry-some, name-append, deck-names-append}
 use Rattle.library.proofs.EntryNames.{name-entry, not-purged}
-use Rattle.library.proofs.Beyond.{from-beyond, entry-beyond}
-use Rattle.corrections.specs.Step.{State, Step, went, refused, refuse, limited, withYanks, withEntry, start, setUnit, isSet, inSet, isKnown, isUnknown, isNoSet, afterIdent, afterYank, obey, step}
-use Rattle.corrections.specs.Run.{Steps, ended, stopped, onward, steps, notUpdated, updated, fitted, update, fromUpdated, fromChecked, newLibrary, running, whyNumber}
-use Rattle.corrections.specs.Units.{roleOf, namesYanked, setsOf, yankedNames, yanksOrSkips, onlyYanks, opensYanking, isYankingSet}
-use Rattle.corrections.specs.declared.Why.{Why}
-use Rattle.corrections.specs.declared.Why.the-variants.{Known, Unknown as UnknownName, NoSet, Limit, Nowhere, Space, Stream}
-use Rattle.corrections.proofs.RunFrom.{RanFrom, run-from, good-is}
-use Rattle.corrections.proofs.Updates.{EndsIn, no-update, update-ends}
-use Rattle.walks.proofs.ViewBack.{takenBack}
-use Rattle.merge_meaning.specs.Merge.{merge, oneLibrary, merging}
+use Rattle.library.proofs.NumbersBeyond.{from-beyond, entry-beyond}
+use Rattle.run_meaning.specs.Step.{State, Step, went, refuse, limited, withYanks, withEntry, start, setUnit, isSet, isKnown, isUnknown, isNoSet, afterIdent, afterYank, obey, step}
+use Rattle.run_meaning.specs.Run.{Steps, ended, stopped, onward, steps, notUpdated, updated, fitted, update, fromUpdated, runChecked, newLibrary, running, whyNumber}
+use Rattle.run_meaning.specs.Units.{roleOf, namesYanked, setsOf, yankedNames, yanksOrSkips, onlyYanks, opensYanking, isYankingSet}
+use Rattle.run_meaning.specs.declared.Why.{Why}
+use Rattle.run_meaning.specs.declared.Why.the-variants.{Known, Unknown as UnknownName, NoSet, Limit, Nowhere, Space, Stream}
+use Rattle.run_meaning.proofs.AcceptedRun.{RanFrom, run-from, good-is}
+use Rattle.run_meaning.proofs.UpdateGrowth.{EndsIn, no-update, update-ends}
+use Rattle.compile_walk.proofs.ViewBack.{takenBack}
+use Rattle.merge_meaning.specs.Merge.{merge}
 use Rattle.merge_meaning.specs.Merged.{Mergeable}
-use Rattle.merge_meaning.proofs.Apart.{not-first}
-use Rattle.merge_meaning.proofs.Soundness.{apart, first-free, second-free}
-use Rattle.merge_meaning.proofs.Answers.{MergedFrom, merged-from, mergeable, merged-passes}
+use Rattle.merge_meaning.proofs.NamesApart.{not-first}
+use Rattle.merge_meaning.proofs.MergedSound.{apart, first-free, second-free}
+use Rattle.merge_meaning.proofs.AcceptedMerge.{MergedFrom, merged-from, mergeable, merged-passes}
 use Rattle.demands.specs.MergedYank.{onlyLimits, AllowedFirst, AllowedSecond}
-use Rattle.demands.proofs.YankedIn.{yanked-are-names, Ran, ran-set, ran-known, ran-lower}
+use Rattle.demands.proofs.MergedYankFlags.{yanked-are-names, Ran, ran-set, ran-known, ran-lower}
 
 -- REFUSED FOR A LIMIT ALONE
 abbrev Allowed : Steps → Type 0
@@ -59,10 +60,6 @@ pub record Yankable (b : Library) (x : ℕ) : Type 0 where
   pub known : 0 < entryOf (b .directory) x
   pub noDeck : T (not (member x (deckNames b)))
 
-not-true : (c : Bool) → T (not c) → c ≡ false
-not-true true t = absurd t
-not-true false t = refl
-
 onward-limited : (t : State) (rest : State → Steps) (n : ℕ) → Allowed (rest t) → Allowed (onward (limited t) rest n)
 onward-limited t rest n h = go (withinLimits (t .lib))
   where
@@ -71,9 +68,6 @@ onward-limited t rest n h = go (withinLimits (t .lib))
     go false = tt
 
 module _ (b : Library) (s : Sound b) (w : ℕ) where
-  abbrev base : Library
-  base = withEntry b w
-
   names-same : deckNames (withEntry b w) ≡ deckNames b
   unfolding deckNames
   names-same = ap {B = List ℕ} (λ ns. reserved ∷ ns) (deck-names-append (b .directory) (w ∷ []) (b .decks) (s .decks))
@@ -152,7 +146,7 @@ allowed-set b s n (l ∷ ls) t f h = go (directive l) t f h (allowed-set b s (su
     on : State → Steps
     on v = steps v (suc n) ls
 
-    go : (a : Line) → T (opensYanking (roleOf a) (isYankingSet ls) (onlyYanks ls)) → Each (λ w. isKnown b w ≡ false) (Rattle.corrections.specs.Units.setNames (roleOf a) ++ setsOf ls)
+    go : (a : Line) → T (opensYanking (roleOf a) (isYankingSet ls) (onlyYanks ls)) → Each (λ w. isKnown b w ≡ false) (Rattle.run_meaning.specs.Units.setNames (roleOf a) ++ setsOf ls)
         → Each (Yankable b) (namesYanked (roleOf a) l ++ yankedNames ls)
         → (T (isYankingSet ls) → Each (λ w. isKnown b w ≡ false) (setsOf ls) → Each (Yankable b) (yankedNames ls) → Allowed (on (start b)))
         → Allowed (onward (obey (start b) l a) on n)
@@ -181,7 +175,7 @@ no-sets : (ls : List (List ℕ)) → T (onlyYanks ls) → setsOf ls ≡ []
 no-sets [] t = refl
 no-sets (l ∷ ls) t = go (directive l) (and-parts (yanksOrSkips (roleOf (directive l))) (onlyYanks ls) t .0) (no-sets ls (and-parts (yanksOrSkips (roleOf (directive l))) (onlyYanks ls) t .1))
   where
-    go : (a : Line) → T (yanksOrSkips (roleOf a)) → setsOf ls ≡ [] → Rattle.corrections.specs.Units.setNames (roleOf a) ++ setsOf ls ≡ []
+    go : (a : Line) → T (yanksOrSkips (roleOf a)) → setsOf ls ≡ [] → Rattle.run_meaning.specs.Units.setNames (roleOf a) ++ setsOf ls ≡ []
     go YankLine u e = e
     go Skipped u e = e
     go Text u e = absurd u
@@ -211,7 +205,7 @@ was-new b n (l ∷ ls) s t e = go (directive l) t e (was-new b (suc n) ls s)
 
     go : (a : Line) → T (opensYanking (roleOf a) (isYankingSet ls) (onlyYanks ls)) → onward (obey (start b) l a) on n ≡ ended s
         → (T (isYankingSet ls) → steps (start b) (suc n) ls ≡ ended s → Each (λ w. isKnown b w ≡ false) (setsOf ls))
-        → Each (λ w. isKnown b w ≡ false) (Rattle.corrections.specs.Units.setNames (roleOf a) ++ setsOf ls)
+        → Each (λ w. isKnown b w ≡ false) (Rattle.run_meaning.specs.Units.setNames (roleOf a) ++ setsOf ls)
     go (Ident w) u h r =
         (new-name w (isKnown b w) refl h, subst (λ (ws : List ℕ). Each (λ x. isKnown b x ≡ false) ws) (sym (no-sets ls u)) tt)
     go Skipped u h r = r u h
@@ -307,7 +301,7 @@ short-stream b x p new e = go (ltb 262144 (length x)) e
 run-allowed : (image : List ℕ) (b : Library) → check image ≡ good b → (x : List ℕ) → ltb 262144 (length x) ≡ false → (q : ℕ) → Allowed (steps (start b) 1 (lines x)) → T (onlyLimits (running image x q))
 unfolding running update
 run-allowed image b ok x short q h =
-    subst (λ (k : Checking). T (onlyLimits (fromChecked k x q))) (sym ok)
+    subst (λ (k : Checking). T (onlyLimits (runChecked k x q))) (sym ok)
     (subst (λ (c : Bool). T (onlyLimits (fromUpdated (if c then notUpdated Stream 0 else fitted q (steps (start b) 1 (lines x)))))) (sym short) (go (steps (start b) 1 (lines x)) h))
   where
     space : (s : State) (c : Bool) → T (onlyLimits (fromUpdated (if c then notUpdated Space 0 else updated (s .lib))))

@@ -1,4 +1,4 @@
--- A stream cut ahead of units and run part after part (demand 3), on images and streams as a caller meets them.
+-- PROMISE. A stream cut ahead of units and run part after part (demand 3), on images and streams as a caller meets them.
 --   the parts           whole, isCut
 --   run part by part    counted, goOn, runParts
 --   the promise         B3
@@ -8,12 +8,12 @@ use mathlib.Core.Bool.{Bool, true, _&&_}
 use mathlib.Core.List.{List, [], _∷_, _++_}
 use lib.Dec.{T}
 use lib.ListN.{length}
-use Rattle.lines.specs.Directive.{lines}
-use Rattle.lines.specs.LineEnds.{endsLine}
+use Rattle.words_lines.specs.Directive.{lines}
+use Rattle.words_lines.specs.LineEnds.{endsLine}
 use Rattle.library.specs.Library.{Library}
 use Rattle.library.specs.Image.{encode}
-use Rattle.corrections.specs.Run.{Running, newLibrary, badLibrary, badStream, running}
-use Rattle.corrections.specs.Cut.{beginsUnit}
+use Rattle.run_meaning.specs.Run.{Running, newLibrary, badLibrary, badStream, running}
+use Rattle.run_meaning.specs.Cut.{beginsUnit}
 
 -- the stream that was cut into these parts
 abbrev pub whole : List (List ℕ) → List ℕ

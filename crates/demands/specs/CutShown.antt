@@ -1,5 +1,5 @@
--- That B3 speaks of something: 01's shown stream is cut and run part after part, and without any one of B3's hypotheses the answer can be another.
---   01's stream in parts      shownParts, refusedParts, ShownCut
+-- PROMISE. That B3 speaks of something: the shown stream is cut and run part after part, and without any one of B3's hypotheses the answer can be another.
+--   the stream in parts       shownParts, refusedParts, ShownCut
 --   a hypothesis left out     differ, uncut, NoneSpareCut, longParts, SizeNeeded
 use Prim.Native.Nat.{ℕ, _≤_}
 use mathlib.Core.Bool.{Bool, true, _&&_, not}
@@ -10,11 +10,11 @@ use Rattle.words.specs.Base.{bytes, all, same}
 use Rattle.library.specs.Library.{fresh}
 use Rattle.library.specs.Image.{encode}
 use Rattle.library.specs.Check.{faultNumber}
-use Rattle.corrections.specs.Run.{Running, newLibrary, badLibrary, badStream, running, whyNumber}
+use Rattle.run_meaning.specs.Run.{Running, newLibrary, badLibrary, badStream, running, whyNumber}
 use Rattle.demands.specs.Shown.{streamOf, three, lineA3, lineB, compileOf, wrote, refusedWith}
 use Rattle.demands.specs.Cut.{whole, isCut, runParts}
 
--- 01'S STREAM IN PARTS, one for each of its units, the last without its byte 10; and one of which the last unit is refused
+-- THE SHOWN STREAM IN PARTS, one for each of its units, the last without its byte 10; and parts of which the second is refused, in its last unit
 abbrev pub shownParts : List (List ℕ)
 shownParts =
     streamOf ("*DECK PUMP" ∷ " A=1" ∷ " B=2" ∷ [])
@@ -28,7 +28,7 @@ refusedParts =
     ∷ streamOf ("*IDENT ONE" ∷ "*DELETE PUMP.2" ∷ " A=3" ∷ "*IDENT TWO" ∷ "*YANK THREE" ∷ [])
     ∷ streamOf ("*IDENT THREE" ∷ "*YANK TWO" ∷ []) ∷ []
 
--- they are cut as B3 asks, make up 01's stream, and compile to what (f) says; the refused one is refused at the whole's line
+-- they are cut as B3 asks, make up the stream of THREE, and compile to what THREE does; the refused one is refused at the whole's line
 pub record ShownCut : Type 0 where
   pub cut : T (isCut shownParts)
   pub stream : T (same (whole shownParts ++ (10 ∷ [])) (streamOf three))

@@ -1,4 +1,4 @@
--- What the customer was promised, on images and streams as a caller meets them.
+-- PROMISE. What the customer was promised, on images and streams as a caller meets them.
 --   runs one after another     Runs, setsIn
 --   corrections                Corrected
 --   taking them back           TakenBack
@@ -7,7 +7,7 @@ use Prim.Native.Nat.{ℕ}
 use mathlib.Core.Path.{_≡_}
 use mathlib.Core.List.{List, [], _∷_}
 use lib.Dec.{T}
-use Rattle.lines.specs.Directive.{lines}
+use Rattle.words_lines.specs.Directive.{lines}
 use Rattle.library.specs.Each.{Each}
 use Rattle.library.specs.Library.{Library}
 use Rattle.library.specs.Image.{encode}
@@ -15,10 +15,10 @@ use Rattle.library.specs.Check.{good, check}
 use Rattle.library.specs.Growth.{sameNames}
 use Rattle.library.specs.Alike.{Alike}
 use Rattle.library.specs.Sound.{Sound}
-use Rattle.corrections.specs.Step.{State, start}
-use Rattle.corrections.specs.Run.{ended, steps, newLibrary, running}
-use Rattle.corrections.specs.Units.{gather, setsOf, yankedNames, onlySets, isYankingSet}
-use Rattle.walks.specs.View.{view}
+use Rattle.run_meaning.specs.Step.{State, start}
+use Rattle.run_meaning.specs.Run.{ended, steps, newLibrary, running}
+use Rattle.run_meaning.specs.Units.{gather, setsOf, yankedNames, onlySets, isYankingSet}
+use Rattle.compile_walk.specs.View.{view}
 use Rattle.compile.specs.Compile.{compiling}
 
 -- the streams were run one after another, none refused: the first on `image`, each next on the image that the one ahead of it wrote, and the
@@ -68,7 +68,7 @@ B2 = (image : List ℕ) (streams : List (List ℕ)) (corrected yanking back agai
     → TakenBack back (setsIn (yanking ∷ [])) again restored
     → (room : ℕ) → compiling restored room ≡ compiling corrected room
 
--- R6: two accepted libraries that differ only in the text of inactive cards have equal compile answers.
+-- R6: accepted libraries that are the same but for lines of cards that are not active have the same compile answers.
 unfoldable pub R6 : Type 0
 R6 = (image other : List ℕ) (l m : Library) → check image ≡ good l → check other ≡ good m → Alike l m
     → (room : ℕ) → compiling other room ≡ compiling image room

@@ -1,20 +1,20 @@
--- That B1 and B2 speak of something: 01's shown sets meet their hypotheses, and without any one of these the answer can be another.
+-- PROMISE. That B1 and B2 speak of something: the shown sets meet their hypotheses, and without any one of these the answer can be another.
 --   the shown sets           deck, one, two, three
---   their images             written, before, corrected, back, restored
+--   their images             writtenBy, wroteOne, ranOn, written, before, corrected, back, restored
 --   B1 and B2 are met        ShownBack
---   a hypothesis left out    Attempt, fails, attempts, NoneSpare
+--   a hypothesis left out    Attempt, Ended, runAll, differ, fails, attempts, NoneSpare
 use Prim.Native.Nat.{ℕ}
 use Prim.Native.String.{String}
 use mathlib.Core.Bool.{Bool, true, false, _&&_, not, Bool·beq}
 use mathlib.Core.List.{List, [], _∷_, _++_, map}
 use lib.Dec.{T, eqb}
 use Rattle.words.specs.Base.{all, same, member}
-use Rattle.lines.specs.Directive.{lines}
+use Rattle.words_lines.specs.Directive.{lines}
 use Rattle.library.specs.Library.{Library, fresh}
 use Rattle.library.specs.Image.{encode}
-use Rattle.corrections.specs.Run.{Running, newLibrary, badLibrary, badStream, running}
-use Rattle.corrections.specs.Units.{yankedNames, onlySets, isYankingSet}
-use Rattle.walks.specs.Walk.{walked, halted}
+use Rattle.run_meaning.specs.Run.{Running, newLibrary, badLibrary, badStream, running}
+use Rattle.run_meaning.specs.Units.{yankedNames, onlySets, isYankingSet}
+use Rattle.compile_walk.specs.Walk.{walked, halted}
 use Rattle.compile.specs.Compile.{Compiling, ofWalk, ofLibrary, compiling, fileOf}
 use Rattle.demands.specs.Shown.{streamOf, lineA, lineA3, lineB, wrote}
 use Rattle.demands.specs.Demands.{setsIn, Corrected, TakenBack}

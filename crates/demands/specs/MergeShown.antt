@@ -1,11 +1,11 @@
--- That M1 to M5 speak of something, and of no more than they should: small merges with their answers, made by hand, and a computed case for each hypothesis left out.
+-- PROMISE. That M1 to M5 speak of something, and of no more than they should: small merges with their answers, made by hand, and a computed case for each hypothesis left out.
 --   images                made, after, accepted, mergedImage, file, answer
 --   two libraries         ships, boats
---   merges                Given, Merge, mergeHolds, mergeCases, MergesHold
---   M1                    libraryIn, checkOf, MergeSpare
---   M2                    NumbersSpare
---   M3                    FileSpare
---   M5                    YankMet, YankSpare
+--   merges                Given, imageOf, Merge, mergeHolds, mergeCases, MergesHold
+--   M1                    libraryIn, libraryFrom, checkOf, noneShared, nameless, tall, askedOf, sameBits, spareTests, MergeSpare
+--   M2                    stretches, numbersTest, NumbersSpare
+--   M3                    caller, valve, times, busy, busier, calls, fileTests, FileSpare
+--   M5                    one, two, yanksOne, yanksTwo, gave, metTests, YankMet, left, right, served, hullToo, reaches, spareYank, YankSpare
 use Prim.Native.Nat.{ℕ, zero, suc, _+_, _-_, _*_, _^_}
 use Prim.Native.String.{String}
 use mathlib.Core.Bool.{Bool, true, false, _&&_, not}
@@ -14,13 +14,13 @@ use mathlib.Core.Option.{Option, none, some}
 use lib.Dec.{T, eqb}
 use lib.ListN.{length, drop, replicate}
 use Rattle.words.specs.Base.{all, same}
-use Rattle.lines.specs.Directive.{lines}
+use Rattle.words_lines.specs.Directive.{lines}
 use Rattle.library.specs.Library.{Library, deckNames, fresh, purged, reserved}
 use Rattle.library.specs.Yanks.{yanked}
 use Rattle.library.specs.Image.{header, counts, encode, withinLimits}
 use Rattle.library.specs.Counts.{withinCounts}
 use Rattle.library.specs.Check.{Checking, good, bad, check, checked, checkedNumber}
-use Rattle.corrections.specs.Units.{isYankingSet}
+use Rattle.run_meaning.specs.Units.{isYankingSet}
 use Rattle.compile.specs.Compile.{compiling, compiled, compiledNumber, compiledSecond, compileInto}
 use Rattle.library_raise.specs.Raised.{raisedWords}
 use Rattle.merge_meaning.specs.Merge.{merge, sharedName, Merging, merging, merged, mergedNumber, mergedValue, mergedWhich, mergeInto}
@@ -209,8 +209,8 @@ abbrev pub libraryIn : Checking → Library
 libraryIn (good l) = l
 libraryIn (bad f p) = fresh
 
-abbrev pub libraryOf : Given → Library
-libraryOf g = libraryIn (check (imageOf g))
+abbrev pub libraryFrom : Given → Library
+libraryFrom g = libraryIn (check (imageOf g))
 
 abbrev pub checkOf : Library → ℕ
 checkOf l = checkedNumber (checked (check (encode l)))
@@ -230,8 +230,8 @@ abbrev pub tall : Library
 tall = record { directory = 0o01000000000000000000 ∷ []; yanks = record { line = []; seq = 1; owner = 1; later = replicate 64 (record { number = 1; activating = true }) } ∷ []; decks = [] }
 
 -- what holds of the two, each as said: the first sound, the second sound, no common name, within the limits
-abbrev pub asked : Library → Library → List Bool
-asked l m = eqb (checkOf l) 0 ∷ eqb (checkOf m) 0 ∷ noneShared l m ∷ withinLimits (merge l m) ∷ []
+abbrev pub askedOf : Library → Library → List Bool
+askedOf l m = eqb (checkOf l) 0 ∷ eqb (checkOf m) 0 ∷ noneShared l m ∷ withinLimits (merge l m) ∷ []
 
 abbrev pub sameBits : List Bool → List Bool → Bool
 sameBits [] [] = true
@@ -243,11 +243,11 @@ sameBits (false ∷ cs) (b ∷ bs) = not b && sameBits cs bs
 abbrev pub spareTests : List Bool
 spareTests =
     -- all four: it is sound
-    (sameBits (true ∷ true ∷ true ∷ true ∷ []) (asked (libraryOf (ran ships)) (libraryOf (ran boats))) && eqb (checkOf (merge (libraryOf (ran ships)) (libraryOf (ran boats)))) 0)
-    ∷ (sameBits (true ∷ true ∷ false ∷ true ∷ []) (asked (libraryOf (ran ships)) (libraryOf (ran ships))) && eqb (checkOf (merge (libraryOf (ran ships)) (libraryOf (ran ships)))) 4)
-    ∷ (sameBits (true ∷ true ∷ true ∷ false ∷ []) (asked (libraryOf (entries 1000 0)) (libraryOf (entries 24 0))) && eqb (checkOf (merge (libraryOf (entries 1000 0)) (libraryOf (entries 24 0)))) 3)
-    ∷ (sameBits (false ∷ true ∷ true ∷ true ∷ []) (asked nameless fresh) && eqb (checkOf (merge nameless fresh)) 4)
-    ∷ (sameBits (true ∷ false ∷ true ∷ true ∷ []) (asked fresh nameless) && eqb (checkOf (merge fresh nameless)) 4)
+    (sameBits (true ∷ true ∷ true ∷ true ∷ []) (askedOf (libraryFrom (ran ships)) (libraryFrom (ran boats))) && eqb (checkOf (merge (libraryFrom (ran ships)) (libraryFrom (ran boats)))) 0)
+    ∷ (sameBits (true ∷ true ∷ false ∷ true ∷ []) (askedOf (libraryFrom (ran ships)) (libraryFrom (ran ships))) && eqb (checkOf (merge (libraryFrom (ran ships)) (libraryFrom (ran ships)))) 4)
+    ∷ (sameBits (true ∷ true ∷ true ∷ false ∷ []) (askedOf (libraryFrom (entries 1000 0)) (libraryFrom (entries 24 0))) && eqb (checkOf (merge (libraryFrom (entries 1000 0)) (libraryFrom (entries 24 0)))) 3)
+    ∷ (sameBits (false ∷ true ∷ true ∷ true ∷ []) (askedOf nameless fresh) && eqb (checkOf (merge nameless fresh)) 4)
+    ∷ (sameBits (true ∷ false ∷ true ∷ true ∷ []) (askedOf fresh nameless) && eqb (checkOf (merge fresh nameless)) 4)
     -- the limits are not told from the counts where a history is too long
     ∷ (withinCounts 1 1 1 (length (encode tall)) && not (withinLimits (merge tall fresh)) && not (withinLimits (merge fresh tall))) ∷ []
 
@@ -263,8 +263,8 @@ stretches l m =
 
 abbrev pub numbersTest : Bool
 numbersTest =
-    let l : Library = libraryOf (ran ships) in
-    let m : Library = libraryOf (ran boats) in
+    let l : Library = libraryFrom (ran ships) in
+    let m : Library = libraryFrom (ran boats) in
     yanked (merge l m) 0 (3 + 4) && not (yanked l 0 7) && yanked m 0 4 && yanked (merge l m) 0 2 && yanked l 0 2 && same (encode (merge l m)) (stretches l m)
     && not (yanked (merge l l) 0 (3 + 2)) && not (same (encode (merge l l)) (stretches l l))
 

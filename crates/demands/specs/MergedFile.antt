@@ -1,4 +1,4 @@
--- MEANING. M3: the compile file of a merged library (02, T-11).
+-- PROMISE. M3: the compile file of a merged library (RULES, "The merge").
 --   what a compile file sees     raiseShown, raiseView, ViewMerged
 --   the file                     FileMerged, FileInFull
 use Prim.Native.Nat.{ℕ, _+_, _≤_}
@@ -7,9 +7,9 @@ use mathlib.Core.List.{List, _++_, map}
 use lib.ListN.{length}
 use Rattle.library.specs.Library.{Library}
 use Rattle.library.specs.Image.{encode}
-use Rattle.walks.specs.View.{Shown, DeckView, view}
-use Rattle.walks.specs.Walk.{Walk, walked}
-use Rattle.walks.specs.Ends.{Ends}
+use Rattle.compile_walk.specs.View.{Shown, DeckView, view}
+use Rattle.compile_walk.specs.Walk.{Walk, walked}
+use Rattle.compile_walk.specs.Ends.{Ends}
 use Rattle.compile.specs.Compile.{lineRoom, ofWalk, compiling}
 use Rattle.merge_meaning.specs.Merge.{merge, oneLibrary, merging}
 use Rattle.merge_meaning.specs.Merged.{Mergeable}

@@ -1,5 +1,5 @@
--- MEANING. M5: a set that only yanks, run on a merged library, does there what it does in the library whose sets it names, and nothing to the other (02, T-11). It is what
--- the office's old reader got wrong: a number read against another library's directory switched off that library's cards.
+-- PROMISE. M5: a set that only yanks, run on a merged library, does there what it does in the library whose sets it names, and nothing to the other (RULES, "The merge").
+-- A number that is looked up in the wrong one of two directories would switch off cards of the other library (RULES, "Slips to avoid").
 --   what such a set leaves    turned, Taken
 --   its cards                 YankFirst, YankSecond
 --   the compile file          FileFirst, FileSecond
@@ -10,18 +10,18 @@ use mathlib.Core.Bool.{Bool, true, false, _||_, not, Bool·beq}
 use mathlib.Core.List.{List, _++_, map}
 use lib.Dec.{T, eqb}
 use lib.ListN.{length}
-use Rattle.lines.specs.Directive.{lines}
+use Rattle.words_lines.specs.Directive.{lines}
 use Rattle.library.specs.Each.{Each}
 use Rattle.library.specs.Library.{Card, Library, entryOf}
 use Rattle.library.specs.Yanks.{active, yanked}
 use Rattle.library.specs.Image.{encode}
 use Rattle.library.specs.Check.{good, check}
 use Rattle.library.specs.Sound.{SoundCard}
-use Rattle.corrections.specs.Run.{Running, newLibrary, badLibrary, badStream, running, whyNumber}
-use Rattle.corrections.specs.Units.{setsOf, isYankingSet}
-use Rattle.walks.specs.View.{view}
-use Rattle.walks.specs.Walk.{Walk, walked}
-use Rattle.walks.specs.Ends.{Ends}
+use Rattle.run_meaning.specs.Run.{Running, newLibrary, badLibrary, badStream, running, whyNumber}
+use Rattle.run_meaning.specs.Units.{setsOf, isYankingSet}
+use Rattle.compile_walk.specs.View.{view}
+use Rattle.compile_walk.specs.Walk.{Walk, walked}
+use Rattle.compile_walk.specs.Ends.{Ends}
 use Rattle.compile.specs.Compile.{lineRoom, ofWalk, compiling}
 use Rattle.library_raise.specs.RaisedCards.{raiseCard}
 use Rattle.merge_meaning.specs.Merge.{merge, oneLibrary, merging}

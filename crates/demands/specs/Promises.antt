@@ -1,12 +1,13 @@
--- Everything that the customer was promised, in the order of the three demands, in one record. Read this first; each field's type is a statement
+-- PROMISE. Everything that the customer was promised, in the order of the three demands, in one record. Read this first; each field's type is a statement
 -- with its own words in the file that the `use` lines name.
 --   Promises
 use Rattle.words.specs.TextTrip.{SaysWritten, WrittenIsText, WrittenFits, WrittenSays, LetterOfCode, CodeOfLetter}
 use Rattle.words.specs.NameTrip.{NameOfWord, WordOfItsName, ReadOfWritten}
-use Rattle.packing.specs.PackTrip.{UnpackPacked, PackUnpacked, PackedAccepted, UnpackedAccepted, PackedLength, UnpackedLength, WordsEights, EightsWords}
+use Rattle.words_packing.specs.PackTrip.{UnpackPacked, PackUnpacked, PackedAccepted, UnpackedAccepted, PackedLength, UnpackedLength, WordsEights, EightsWords}
 use Rattle.library.specs.Exact.{CheckExact, EncodeOnce, YankedSolves, YankedUnique}
-use Rattle.corrections.specs.Kept.{R4, R5, RunIdle}
-use Rattle.demands.specs.Demands.{B1, B2, R6}
+use Rattle.run_meaning.specs.Kept.{R4, R5, RunIdle}
+use Rattle.library.specs.WordForm.{FormByWord}
+use Rattle.demands.specs.Demands.{LibraryBack, B1, B2, R6}
 use Rattle.demands.specs.Cut.{B3}
 use Rattle.demands.specs.Shown.{AllHold}
 use Rattle.demands.specs.Instances.{ShownBack, NoneSpare}
@@ -31,7 +32,7 @@ pub record Promises : Type 0 where
   pub word-of-name : WordOfItsName
   pub read-of-written : ReadOfWritten
   -- R2: words packed and unpacked are the same words; accepted bytes unpacked and packed are the same bytes; both are accepted again; n words take
-  -- 15 times n halved, rounded up; and so for words of eight bytes.
+  -- seven and a half bytes each, rounded up; and so for words of eight bytes.
   pub unpack-packed : UnpackPacked
   pub pack-unpacked : PackUnpacked
   pub packed-accepted : PackedAccepted
@@ -44,6 +45,8 @@ pub record Promises : Type 0 where
   -- solution.
   pub check-exact : CheckExact
   pub encode-once : EncodeOnce
+  -- Row 5 of the check, word by word.
+  pub form-by-word : FormByWord
   pub yanked-solves : YankedSolves
   pub yanked-unique : YankedUnique
   -- R4: the result of an accepted run is sound, passes the check and fits the space.
@@ -51,24 +54,26 @@ pub record Promises : Type 0 where
   -- R5: an accepted run keeps every card and adds those of its lines; without units it writes the image that it read.
   pub run-keeps : R5
   pub run-idle : RunIdle
-  -- R6: two accepted libraries that differ only in the text of inactive cards have equal compile answers.
+  -- R6: accepted libraries that are the same but for lines of cards that are not active have the same compile answers.
   pub inactive-text : R6
-  -- R7: document 01's shown cases (a) to (i), its compile example, and a dozen more.
+  -- R7: the shown libraries, runs of blanks and packed words, the shown compile file, and a dozen more (RULES, "Shown example").
   pub all-hold : AllHold
   -- DEMAND 3: what was corrected can be taken back.
   -- B1: correction sets, then one set that only yanks each of them: the full compile answer is the one from before.
   pub taken-back : B1
+  -- the same of a sound library and the lines of streams.
+  pub library-back : LibraryBack
   -- B2: that set yanked in turn: the corrected compile answer is back.
   pub restored : B2
   -- B3: a stream cut ahead of units and run part after part gives what the whole gives.
   pub cut-parts : B3
-  -- B1 to B3 speak of 01's shown stream, and without any one of their hypotheses the answer can be another.
+  -- B1 to B3 speak of the shown stream, and without any one of their hypotheses the answer can be another.
   pub shown-back : ShownBack
   pub none-spare : NoneSpare
   pub shown-cut : ShownCut
   pub none-spare-cut : NoneSpareCut
   pub size-needed : SizeNeeded
-  -- TWO LIBRARIES MERGED (02, T-11).
+  -- TWO LIBRARIES MERGED (RULES, "The merge").
   -- M1: two sound libraries without a common name and within the limits give a sound one; the image of an accepted merge passes the check and fits the space, so that all
   -- of the above holds of it as of any other. Its words are those of both but for three, and its limits are those of the summed counts.
   pub merge-sound : MergeSound

@@ -1,24 +1,23 @@
--- 01, "Shown example": the cases (a) to (i) and the compile example, with a dozen more that pin what the example leaves free,
--- as one statement over one list, which the checker computes.
---   a case             Case, holds
---   streams            pump, two, three, chain, chart
+-- PROMISE. The shown example (RULES, "Shown example"), with shown runs of blanks and packed words (RULES, "Text", "Packing"), and a dozen cases more that pin what these leave
+-- free, as one statement over one list, which is computed.
+--   a case             Case, streamOf, ranOn, readsBack, gave, refusedWith, answered, wrote, compileOf, programmedTo, holds
+--   streams            pump, two, three, chain, chartShown
+--   compile lines      lineA, lineA3, lineB
 --   the cases          cases
 --   the statement      AllHold
-use Prim.Native.Nat.{ℕ, zero, suc, _+_}
+use Prim.Native.Nat.{ℕ}
 use Prim.Native.String.{String}
-use mathlib.Core.Bool.{Bool, true, false, _&&_}
-use mathlib.Core.List.{List, [], _∷_, _++_, map}
+use mathlib.Core.Bool.{Bool, false, _&&_}
+use mathlib.Core.List.{List, [], _∷_, _++_}
 use lib.Dec.{T, eqb}
 use lib.ListN.{length, replicate}
 use Rattle.words.specs.Base.{bytes, all, same}
-use Rattle.packing.specs.Pack.{packed, unpacked}
+use Rattle.words_packing.specs.Pack.{packed, unpacked}
 use Rattle.words.specs.Text.{compress, gap}
-use Rattle.library.specs.Library.{Library, fresh}
+use Rattle.library.specs.Library.{fresh}
 use Rattle.library.specs.Image.{encode}
 use Rattle.library.specs.Check.{Checking, good, bad, check}
-use Rattle.library.specs.declared.Fault.{Fault}
-use Rattle.corrections.specs.Run.{Running, newLibrary, badLibrary, badStream, running, whyNumber}
-use Rattle.corrections.specs.declared.Why.{Why}
+use Rattle.run_meaning.specs.Run.{Running, newLibrary, badLibrary, badStream, running, whyNumber}
 use Rattle.compile.specs.Compile.{Compiling, compiling, compiled, compileInto, compiledNumber, compiledFirst, compiledSecond, program}
 use Rattle.compile.specs.declared.Compiled.{Compiled}
 
@@ -80,7 +79,7 @@ holds (inside n cs) = same (compress (1 ∷ (replicate n gap ++ (2 ∷ [])))) (1
 holds (leading n cs) = same (compress (replicate n gap ++ (2 ∷ []))) (cs ++ (2 ∷ []))
 holds (packs n b) = eqb (length (packed (replicate n 0))) b && same (unpacked (packed (replicate n 0))) (replicate n 0)
 
--- STREAMS: 01's, then what (d) and (f) add
+-- STREAMS: that of PUMP, then what TWO and THREE add
 abbrev pub pump : List String
 pump = "*DECK PUMP" ∷ " A=1" ∷ " B=2" ∷ "*IDENT ONE" ∷ "*DELETE PUMP.2" ∷ " A=3" ∷ []
 
@@ -97,8 +96,8 @@ chain =
     ∷ "*CD C6" ∷ "*CALL C7" ∷ "*CD C7" ∷ "*CALL C8" ∷ "*DECK P" ∷ "*CALL C1" ∷ []
 
 -- every character in the order of the chart, but for the colon, which stands last
-abbrev pub chart : List String
-chart = "*DECK CHART" ∷ "ABCDEFGHIJKLMNOPQRSTUVWXYZ0123456789+-*/()$= ,.#[]%\"_!&'?<>@\\^;:" ∷ []
+abbrev pub chartShown : List String
+chartShown = "*DECK CHART" ∷ "ABCDEFGHIJKLMNOPQRSTUVWXYZ0123456789+-*/()$= ,.#[]%\"_!&'?<>@\\^;:" ∷ []
 
 -- compile lines that several cases share
 abbrev pub lineA : String
@@ -113,7 +112,7 @@ lineB = " B=2                                                                   
 abbrev pub cases : List Case
 cases =
     gives [] (0o03100503130004003147 ∷ 0o00000000000000000001 ∷ 0o31011613535353000000 ∷ [])
-    -- (a), (b), (c)
+    -- PUMP: PUMP.2 is off, ONE.1 is on
     ∷ gives pump
     (0o03100503130004003147 ∷ 0o00000000000002000002
     ∷ 0o20251520000000000000 ∷ 0o17160500000000000000
@@ -122,7 +121,7 @@ cases =
     ∷ 0o00000001000002200001 ∷ 0o40000002000000000000 ∷ 0o55015434000000000000
     ∷ 0o60000001000001200002 ∷ 0o55015436000000000000
     ∷ 0o60000001000003200001 ∷ 0o55025435000000000000 ∷ [])
-    -- (d), (e)
+    -- TWO: ONE is yanked, so PUMP.2 is on, and ONE.1 off
     ∷ gives two
     (0o03100503130004003147 ∷ 0o00000000000003000002
     ∷ 0o20251520000000000000 ∷ 0o17160500000000000000 ∷ 0o24271700000000000000
@@ -132,7 +131,7 @@ cases =
     ∷ 0o20000001000002200001 ∷ 0o40400002000000000000 ∷ 0o55015434000000000000
     ∷ 0o40000001000001600002 ∷ 0o55015436000000000000
     ∷ 0o60000001000003200001 ∷ 0o55025435000000000000 ∷ [])
-    -- (f): the yanked YANK is no more in force
+    -- THREE: a YANK that is yanked itself counts no more
     ∷ gives three
     (0o03100503130004003147 ∷ 0o00000000000004000002
     ∷ 0o20251520000000000000 ∷ 0o17160500000000000000 ∷ 0o24271700000000000000 ∷ 0o24102205050000000000
@@ -143,7 +142,7 @@ cases =
     ∷ 0o00000001000002200001 ∷ 0o40000002000000000000 ∷ 0o55015434000000000000
     ∷ 0o60000001000001200002 ∷ 0o55015436000000000000
     ∷ 0o60000001000003200001 ∷ 0o55025435000000000000 ∷ [])
-    -- (g), (h), (i)
+    -- blanks inside a line and at its start; packed words
     ∷ inside 65 (0 ∷ 0o77 ∷ 0o55 ∷ [])
     ∷ inside 66 (0 ∷ 0o77 ∷ 0o55 ∷ 0o55 ∷ [])
     ∷ inside 67 (0 ∷ 0o77 ∷ 0 ∷ 2 ∷ [])
@@ -206,7 +205,7 @@ cases =
     -- a correction outside a set
     ∷ refuses ("*DECK P" ∷ "*INSERT P.1" ∷ []) 24 2
     -- the chart: every character has its code, the colon 0001, and is read back; any other byte has none
-    ∷ gives chart
+    ∷ gives chartShown
     (0o03100503130004003147 ∷ 0o00000000000001000002
     ∷ 0o03100122240000000000
     ∷ 0o31011613535353000000 ∷ 0o03100122240000000000
@@ -214,7 +213,7 @@ cases =
     ∷ 0o60000007000002200001
     ∷ 0o01020304050607101112 ∷ 0o13141516172021222324 ∷ 0o25262730313233343536 ∷ 0o37404142434445464750
     ∷ 0o51525354555657606162 ∷ 0o63646566677071727374 ∷ 0o75767700010000000000 ∷ [])
-    ∷ compiles chart ("ABCDEFGHIJKLMNOPQRSTUVWXYZ0123456789+-*/()$= ,.#[]%\"_!&'?<>@\\^;:         CHART           2" ∷ []) 0
+    ∷ compiles chartShown ("ABCDEFGHIJKLMNOPQRSTUVWXYZ0123456789+-*/()$= ,.#[]%\"_!&'?<>@\\^;:         CHART           2" ∷ []) 0
     ∷ refuses ("*DECK P" ∷ "A" ∷ "a" ∷ []) 20 3
     ∷ []
 

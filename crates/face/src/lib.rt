@@ -1,14 +1,14 @@
-// What C calls. Each function answers 01's number and sets its values through references, in both cases.
+// What C calls. Each function answers the table's number and sets its values through references, in both cases.
 ghost use mathlib.Core.Path.{_≡_};
 ghost use lib.ListN.{length};
-ghost use Rattle.naming.specs.Naming.{naming, told, showInto, toldNumber, toldValue};
-ghost use Rattle.fresh.specs.Fresh.{freshing, freshInto, begunNumber, begunValue};
-ghost use Rattle.keeper.specs.Keeper.{listing};
+ghost use Rattle.keeper_card.specs.Naming.{naming, told, showInto, toldNumber, toldValue};
+ghost use Rattle.library_fresh.specs.Fresh.{freshing, freshInto, begunNumber, begunValue};
+ghost use Rattle.keeper_directory.specs.Keeper.{listing};
 ghost use Rattle.library.specs.Check.{check, checked, checkedNumber, checkedPlace};
-ghost use Rattle.corrections.specs.Run.{running, ran, runInto, ranNumber, ranValue};
+ghost use Rattle.run_meaning.specs.Run.{running, ran, runInto, ranNumber, ranValue};
 ghost use Rattle.merge_meaning.specs.Merge.{merging, merged, mergeInto, mergedNumber, mergedValue, mergedWhich};
 ghost use Rattle.compile.specs.Compile.{compiling, compiled, compileInto, compiledNumber, compiledFirst, compiledSecond};
-ghost use Rattle.packing.specs.Pack.{packingEights, unpackingEights, packEightsInto, unpackEightsInto, packingNumber, packingValue};
+ghost use Rattle.words_packing.specs.Pack.{packingEights, unpackingEights, packEightsInto, unpackEightsInto, packingNumber, packingValue};
 
 // Words of eight bytes, packed.
 #[no_mangle]
@@ -17,9 +17,9 @@ pub extern "C" fn galdwist_pack(words: &[u8], out: &mut [u8], written: &mut u64)
     ensures space { λ _. ⌜ now (out .exit) ≡ packEightsInto (now (words .entry)) (now (out .entry)) ⌝ }
     ensures value { λ _. ⌜ now (written .exit) ≡ packingValue (packingEights (now (words .entry)) (length (now (out .entry)))) ⌝ }
 {
-    let answer = packing::pack_bytes(words, out);
-    *written = packing::packing_value(answer);
-    packing::packing_number(answer)
+    let answer = words_packing::pack_bytes(words, out);
+    *written = words_packing::packing_value(answer);
+    words_packing::packing_number(answer)
 }
 
 // Packed bytes, as words of eight bytes.
@@ -29,9 +29,9 @@ pub extern "C" fn galdwist_unpack(bytes: &[u8], out: &mut [u8], written: &mut u6
     ensures space { λ _. ⌜ now (out .exit) ≡ unpackEightsInto (now (bytes .entry)) (now (out .entry)) ⌝ }
     ensures value { λ _. ⌜ now (written .exit) ≡ packingValue (unpackingEights (now (bytes .entry)) (length (now (out .entry)))) ⌝ }
 {
-    let answer = unpacking::unpack_bytes(bytes, out);
-    *written = packing::packing_value(answer);
-    packing::packing_number(answer)
+    let answer = words_packing_back::unpack_bytes(bytes, out);
+    *written = words_packing::packing_value(answer);
+    words_packing::packing_number(answer)
 }
 
 // The library check: the row of the first fault, and its word; 0 and 0 where the image is a library.
@@ -40,7 +40,7 @@ pub extern "C" fn galdwist_check(image: &[u64], place: &mut u64) -> u64
     ensures number { λ r. ⌜ r ≡ checkedNumber (checked (check (now (image .entry)))) ⌝ }
     ensures value { λ _. ⌜ now (place .exit) ≡ checkedPlace (checked (check (now (image .entry)))) ⌝ }
 {
-    let answer = checks::check(image);
+    let answer = library_check::check(image);
     *place = library::checked_place(answer);
     library::checked_number(answer)
 }
@@ -108,9 +108,9 @@ pub extern "C" fn galdwist_fresh(space: &mut [u64], value: &mut u64) -> u64
     ensures space { λ _. ⌜ now (space .exit) ≡ freshInto (now (space .entry)) ⌝ }
     ensures value { λ _. ⌜ now (value .exit) ≡ begunValue (freshing (length (now (space .entry)))) ⌝ }
 {
-    let answer = fresh::fresh(space);
-    *value = fresh::begun_value(answer);
-    fresh::begun_number(answer)
+    let answer = library_fresh::fresh(space);
+    *value = library_fresh::begun_value(answer);
+    library_fresh::begun_number(answer)
 }
 
 // The directory, a row of 11 bytes for each entry: the count of entries, or the place of the fault, or 0.
@@ -120,9 +120,9 @@ pub extern "C" fn galdwist_directory(image: &[u64], rows: &mut [u8], value: &mut
     ensures space { λ _. ⌜ now (rows .exit) ≡ showInto (listing (now (image .entry)) (length (now (rows .entry)))) (now (rows .entry)) ⌝ }
     ensures value { λ _. ⌜ now (value .exit) ≡ toldValue (told (listing (now (image .entry)) (length (now (rows .entry))))) ⌝ }
 {
-    let answer = keeper::directory(image, rows);
-    *value = naming::told_value(answer);
-    naming::told_number(answer)
+    let answer = keeper_directory::directory(image, rows);
+    *value = keeper_card::told_value(answer);
+    keeper_card::told_number(answer)
 }
 
 // The name of a card: the bytes written, or the place of the fault, or 0.
@@ -138,7 +138,7 @@ pub extern "C" fn galdwist_card(
     ensures space { λ _. ⌜ now (out .exit) ≡ showInto (naming (now (image .entry)) owner seq (length (now (out .entry)))) (now (out .entry)) ⌝ }
     ensures value { λ _. ⌜ now (value .exit) ≡ toldValue (told (naming (now (image .entry)) owner seq (length (now (out .entry))))) ⌝ }
 {
-    let answer = naming::card(image, owner, seq, out);
-    *value = naming::told_value(answer);
-    naming::told_number(answer)
+    let answer = keeper_card::card(image, owner, seq, out);
+    *value = keeper_card::told_value(answer);
+    keeper_card::told_number(answer)
 }

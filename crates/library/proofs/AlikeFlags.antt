@@ -1,17 +1,17 @@
--- Libraries that differ only in the text of inactive cards have the same numbers yanked: an inactive card of YANK$$$ yanks nothing, whatever it says.
+-- Libraries that differ only in the text of inactive cards have the same numbers yanked.
 use Prim.Native.Nat.{ℕ}
 use mathlib.Core.Path.{_≡_, refl, sym, ap, ap₂, _∙_, subst}
-use mathlib.Core.Bool.{Bool, true, false, _&&_, _||_}
+use mathlib.Core.Bool.{_||_, Bool, true, false, _&&_}
 use mathlib.Core.List.{List, [], _∷_, map}
 use lib.Dec.{T}
+use Rattle.words.proofs.TestParts.{and-false}
 use Rattle.words.specs.Base.{any}
 use Rattle.library.specs.Library.{Byte, Card, Library, history}
 use Rattle.library.specs.Yanks.{lastSays, active, covers, targets, yankedBy, yanked}
 use Rattle.library.specs.Sound.{Sound}
 use Rattle.library.specs.Alike.{Pairwise, LikeCard, Alike}
-use Rattle.library.proofs.Anys.{and-false}
 use Rattle.library.proofs.Rollback.{yankOf}
-use Rattle.library.proofs.Flags.{yankList, flags, yanked-rule, flags-solve, flags-only, flags-yanked}
+use Rattle.library.proofs.SettledFlags.{yankList, flags, yanked-rule, flags-solve, flags-only, flags-yanked}
 
 history-like : (yk : ℕ → Bool) (c d : Card) → LikeCard yk c d → history d ≡ history c
 history-like yk c d k = λ i. record { number = k .owner i; activating = true } ∷ k .later i

@@ -7,11 +7,11 @@ use mathlib.Core.List.{List, [], _∷_, map}
 use lib.Dec.{T, eqb, leb, le→leb}
 use lib.ListN.{length}
 use Rattle.words.specs.Base.{if_then_else_, all}
-use Rattle.words.proofs.Tests.{and-both}
+use Rattle.words.proofs.TestParts.{and-both}
 use Rattle.library.specs.Each.{Each}
 use Rattle.library.specs.Library.{Byte, nameAt, purged}
 use Rattle.library.specs.Image.{bit, byteBits}
-use Rattle.library.specs.Sound.{isNamed, neverFalls}
+use Rattle.library.specs.Sound.{isEntry, neverFalls}
 use Rattle.library.specs.Check.{byteOf, rising, okByte}
 use Rattle.library.proofs.EntryNames.{is-named}
 use Rattle.library.proofs.FieldsBack.{Raw}
@@ -71,7 +71,7 @@ module _ (yk : ℕ → Bool) where
       ap (λ (k : ℕ). leb n k && rising k (map (byteBits yk) bs)) (number-back b (h .0))
       ∙ ap (λ (c : Bool). leb n (b .number) && c) (rising-back (b .number) bs (h .1))
 
-  pub bytes-named : (directory : List ℕ) (bs : List Byte) → Each Low bs → Each (λ b. T (isNamed directory (b .number))) bs → T (all (okByte directory) (map (byteBits yk) bs))
+  pub bytes-named : (directory : List ℕ) (bs : List Byte) → Each Low bs → Each (λ b. T (isEntry directory (b .number))) bs → T (all (okByte directory) (map (byteBits yk) bs))
   bytes-named directory [] l h = tt
   bytes-named directory (b ∷ bs) l h =
       let q = is-named directory (b .number) (h .0) in

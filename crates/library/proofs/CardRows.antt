@@ -5,12 +5,12 @@ use mathlib.Core.List.{List, [], _∷_, map}
 use mathlib.Core.Option.{none, some}
 use lib.Dec.{T, eqb}
 use Rattle.words.specs.Base.{if_then_else_, any}
-use Rattle.words.proofs.Tests.{and-both}
+use Rattle.words.proofs.TestParts.{and-both, eqb-turn}
 use Rattle.library.specs.Each.{Each}
 use Rattle.library.specs.Sound.{noTwo, sameCard}
 use Rattle.library.specs.Check.{Stored, firstFailing, sharesBoth, row10From, row10}
-use Rattle.library.proofs.Each.{and-parts}
-use Rattle.library.proofs.TableRows.{some-none, free-none, eqb-turn}
+use Rattle.library.proofs.EachTest.{and-parts}
+use Rattle.library.proofs.TableRows.{some-none, free-none}
 use Rattle.library.proofs.NoTwo.{freeAfter, free-no-two, no-two-free, no-two-map}
 
 -- ROW 8: no card fails
@@ -21,14 +21,6 @@ failing-none ok (s ∷ ss) e = go (ok s) (failing-none ok ss) e
     go : (c : Bool) → (firstFailing ok ss ≡ none → Each (λ t. T (ok t)) ss) → (if c then firstFailing ok ss else some (s .place)) ≡ none → T c × Each (λ t. T (ok t)) ss
     go true f q = (tt, f q)
     go false f q = absurd (some-none (s .place) q)
-
-pub none-failing : (ok : Stored → Bool) (ss : List Stored) → Each (λ s. T (ok s)) ss → firstFailing ok ss ≡ none
-none-failing ok [] h = refl
-none-failing ok (s ∷ ss) h = go (ok s) (h .0) (none-failing ok ss (h .1))
-  where
-    go : (c : Bool) → T c → firstFailing ok ss ≡ none → (if c then firstFailing ok ss else some (s .place)) ≡ none
-    go true t q = q
-    go false t q = absurd t
 
 -- ROW 10: no two share owner and sequence number
 shares-turn : (s t : Stored) → T (sharesBoth s t) → T (sharesBoth t s)

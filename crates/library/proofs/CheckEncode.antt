@@ -10,18 +10,18 @@ use lib.ListN.{length, take, drop, take-append-drop}
 use lib.Seq.{drop-drop}
 use Rattle.words.specs.Base.{if_then_else_, same}
 use Rattle.words.specs.Text.{textWords}
-use Rattle.words.proofs.Tests.{same-eq}
+use Rattle.words.proofs.TestParts.{same-eq}
 use Rattle.library.specs.Library.{Card, Library, DeckLine, notDeck, badDeck, deckOf, deckLine, history, deckNames}
 use Rattle.library.specs.Yanks.{active, yanked}
 use Rattle.library.specs.Image.{byteBits, headWords, cardWords, cardsWords, decksWords, counts, encode}
-use Rattle.library.specs.Check.{directoryOf, deckWordsOf, Stored, isDeckLine, row7, Parted, partAt, partsOf, libraryOf, okBits, row9From}
+use Rattle.library.specs.Check.{directoryOf, deckWordsOf, Stored, isDeckLine, row7, Parted, partAt, partedBy, libraryOf, okBits, row9From}
 use Rattle.library.specs.Exact.{CheckEncode}
-use Rattle.library.proofs.Each.{and-parts}
+use Rattle.library.proofs.EachTest.{and-parts}
 use Rattle.library.proofs.TableRows.{some-none}
-use Rattle.library.proofs.Accepted.{Accepted, check-accepted}
-use Rattle.library.proofs.Laid.{Counted, counted, entry-count, read, deck-names, deck-count}
-use Rattle.library.proofs.Reading.{spelled, spellAll}
-use Rattle.library.proofs.Parting.{Step, step}
+use Rattle.library.proofs.AcceptedImage.{Accepted, check-accepted}
+use Rattle.library.proofs.ImageLayout.{Counted, counted, entry-count, read, deck-names, deck-count}
+use Rattle.library.proofs.ReadAsWritten.{spelled, spellAll}
+use Rattle.library.proofs.CardsInDecks.{Step, step}
 
 -- THE CARDS
 beq-eq : (a b : Bool) → T (Bool·beq a b) → a ≡ b
@@ -49,7 +49,7 @@ module _ (directory : List ℕ) (end : ℕ) (yk : ℕ → ℕ → Bool) where
   abbrev written : ℕ → Parted → List ℕ
   written deck p = cardsWords (yk deck) (p .first) ++ decksWords yk (p .decks)
 
-  words-parted : (deck : ℕ) (names : List ℕ) (ss : List Stored) → row7 directory names ss end ≡ none → row9From yk deck ss ≡ none → written deck (partsOf ss) ≡ spellAll ss
+  words-parted : (deck : ℕ) (names : List ℕ) (ss : List Stored) → row7 directory names ss end ≡ none → row9From yk deck ss ≡ none → written deck (partedBy ss) ≡ spellAll ss
   words-parted deck names [] e b = refl
   words-parted deck names (s ∷ ss) e b =
       go (deckLine (s .card .line)) (step directory names s ss end (deckLine (s .card .line)) e) b (λ here ns f g. words-parted here ns ss f g)
@@ -58,7 +58,7 @@ module _ (directory : List ℕ) (end : ℕ) (yk : ℕ → ℕ → Bool) where
       c = s .card
 
       p : Parted
-      p = partsOf ss
+      p = partedBy ss
 
       under : DeckLine → ℕ
       under d = if isDeckLine d then c .owner else deck

@@ -10,26 +10,26 @@ use Rattle.words.specs.Base.{if_then_else_}
 use Rattle.library.specs.Each.{Each}
 use Rattle.library.specs.Library.{Card, Deck, Library, DeckLine, notDeck, badDeck, deckOf, deckLine, history, stream, deckNames, nameAt}
 use Rattle.library.specs.Image.{encode, shortHistory, limitTests, withinLimits}
-use Rattle.library.specs.Check.{Stored, directoryOf, deckWordsOf, isDeckLine, row7, partAt, partsOf, libraryOf, aheadOfDecks, okYank}
+use Rattle.library.specs.Check.{Stored, directoryOf, deckWordsOf, isDeckLine, row7, partAt, partedBy, libraryOf, aheadOfDecks, okYank}
 use Rattle.library.specs.Sound.{noTwo, namesLowerSets, SoundDeck, Sound}
 use Rattle.library.specs.Exact.{CheckSound, FreshSound}
-use Rattle.library.proofs.Each.{each-map, each-of-map, each-all, each-allOf}
+use Rattle.library.proofs.EachTest.{each-map, each-of-map, each-all, each-allOf}
 use Rattle.library.proofs.NoTwo.{no-two-map, no-two-less}
 use Rattle.library.proofs.TableRows.{entries-sound}
 use Rattle.library.proofs.CardRows.{failing-none, row10-once}
-use Rattle.library.proofs.Accepted.{Accepted, check-accepted}
-use Rattle.library.proofs.Parting.{Step, step}
-use Rattle.library.proofs.Laid.{Counted, counted, entry-count, entries-pass, listed, read, parts, deck-names, deck-count}
+use Rattle.library.proofs.AcceptedImage.{Accepted, check-accepted}
+use Rattle.library.proofs.CardsInDecks.{Step, step}
+use Rattle.library.proofs.ImageLayout.{Counted, counted, entry-count, entries-pass, listed, read, parts, deck-names, deck-count}
 use Rattle.library.proofs.CheckEncode.{accepted-encode}
 
 -- the cards ahead of the decks are those of YANK$$$
-ahead-first : (directory names : List ℕ) (ss : List Stored) (end : ℕ) → row7 directory names ss end ≡ none → map (λ s. s .card) (aheadOfDecks ss) ≡ partsOf ss .first
+ahead-first : (directory names : List ℕ) (ss : List Stored) (end : ℕ) → row7 directory names ss end ≡ none → map (λ s. s .card) (aheadOfDecks ss) ≡ partedBy ss .first
 ahead-first directory names [] end e = refl
 ahead-first directory names (s ∷ ss) end e =
     go (deckLine (s .card .line)) (step directory names s ss end (deckLine (s .card .line)) e) (λ f. ahead-first directory names ss end f)
   where
-    go : (d : DeckLine) → Step directory names s ss end d → (row7 directory names ss end ≡ none → map (λ t. t .card) (aheadOfDecks ss) ≡ partsOf ss .first)
-        → map (λ t. t .card) (if isDeckLine d then [] else (s ∷ aheadOfDecks ss)) ≡ partAt d (s .card) (partsOf ss) .first
+    go : (d : DeckLine) → Step directory names s ss end d → (row7 directory names ss end ≡ none → map (λ t. t .card) (aheadOfDecks ss) ≡ partedBy ss .first)
+        → map (λ t. t .card) (if isDeckLine d then [] else (s ∷ aheadOfDecks ss)) ≡ partAt d (s .card) (partedBy ss) .first
     go notDeck r ih = ap {B = List Card} (λ t. s .card ∷ t) (ih r)
     go badDeck r ih = absurd r
     go (deckOf common w) r ih = refl

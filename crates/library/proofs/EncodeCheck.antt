@@ -11,22 +11,22 @@ use lib.Seq.{take-at, drop-at}
 use Rattle.words.specs.Base.{anyOf, member, placeFrom}
 use Rattle.words.specs.Base.{isWord}
 use Rattle.words.specs.Names.{isNameWord}
-use Rattle.words.proofs.Tests.{and-both, all-append}
+use Rattle.words.proofs.TestParts.{and-both, all-append}
 use Rattle.library.specs.Each.{Each}
 use Rattle.library.specs.Library.{Deck, Library, history, stream, nameAt, entryOf, reserved, purged, deckNames}
 use Rattle.library.specs.Yanks.{yanked}
 use Rattle.library.specs.Image.{header, counts, tables, encode, shortHistory, limitTests, withinLimits}
-use Rattle.library.specs.Sound.{noTwo, soundEntry, isNamed, SoundCard, SoundDeck, Sound}
+use Rattle.library.specs.Sound.{noTwo, soundEntry, isEntry, SoundCard, SoundDeck, Sound}
 use Rattle.library.specs.Exact.{EncodeCheck}
 use Rattle.library.specs.declared.Fault.{Fault}
 use Rattle.library.specs.declared.Fault.the-variants.{Size, Header, Tables, Name, Decks, Yank as YankFault, Bit, Twice}
 use Rattle.library.specs.Check.{Checking, good, orElse, firstOf, faultIf, directoryCount, deckCount, directoryOf, deckWordsOf, cardsPlace, row1, row2, tableFaults, row3, firstBad, okEntry, okDeckWord, row4, Stored, cards, readCards, row7, row8, row9, row10, row9From, libraryOf, checkCards, check}
-use Rattle.library.proofs.Each.{and-parts, each-map, each-two, each-under-map, all-each, allOf-each, none-anyOf, each-of-map}
+use Rattle.library.proofs.EachTest.{and-parts, each-map, each-two, each-under-map, all-each, allOf-each, none-anyOf, each-of-map}
 use Rattle.library.proofs.NoTwo.{no-two-map, no-two-less}
 use Rattle.library.proofs.EntryNames.{is-named, entry-name, name-member}
 use Rattle.library.proofs.TableRows.{none-first, none-fault, none-place, isListed, sound-entries, sound-list}
-use Rattle.library.proofs.Dealt.{dealt, dealtWords, dealt-stream, dealt-words, each-dealt}
-use Rattle.library.proofs.Reading.{Fit}
+use Rattle.library.proofs.DealtCards.{dealt, dealtWords, dealt-stream, dealt-words, each-dealt}
+use Rattle.library.proofs.ReadAsWritten.{Fit}
 use Rattle.library.proofs.ReadBack.{storedFrom, read-back}
 use Rattle.library.proofs.RowsBack.{deck-named, parts-back, row7-back, row8-back, row9-back, row10-back}
 use Rattle.library.proofs.WordsFit.{dealt-isWord, entry-sound, tables-isWord}
@@ -165,7 +165,7 @@ module _ (l : Library) (s : Sound l) where
   -- ROW 4
   listed-deck : (d : Deck) → SoundDeck directory d → T (isListed directory (nameOf d)) × T (not (eqb (nameOf d) reserved))
   listed-deck d h =
-      let at : T (isNamed directory (d .number)) = deck-named directory d h in
+      let at : T (isEntry directory (d .number)) = deck-named directory d h in
       let w : ℕ = nameOf d in
       let q = and-parts (isNameWord w) (not (eqb w reserved)) (a-name w (entry-sound directory (d .number) (s .entries) at) (is-named directory (d .number) at .named)) in
       (and-both (isNameWord w) (member w directory) (q .0) (name-member directory (s .names) (d .number) at), q .1)

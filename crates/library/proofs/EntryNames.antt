@@ -9,10 +9,15 @@ use lib.Dec.{T, eqb, eqb→eq, eqb-refl, ltb→lt, leb→le, T-not}
 use lib.ListN.{length, getD}
 use Rattle.words.specs.Base.{if_then_else_, any, member}
 use Rattle.words.specs.Names.{isName, nameOf, isNameWord}
-use Rattle.words.proofs.Tests.{and-both}
+use Rattle.words.proofs.TestParts.{and-both}
 use Rattle.library.specs.Library.{purged, nameAt, entryFrom, entryOf}
-use Rattle.library.specs.Sound.{noTwo, numberTests, isNamed, sameName}
-use Rattle.library.proofs.Each.{and-parts, allOf-each}
+use Rattle.library.specs.Sound.{noTwo, numberTests, isEntry, sameName}
+use Rattle.library.proofs.EachTest.{and-parts, allOf-each}
+
+-- the name at a number from 1 on stands one place ahead of it
+pub name-at : (directory : List ℕ) (n : ℕ) → 0 < n → nameAt directory n ≡ getD directory (n - 1) 0
+name-at directory zero h = absurd (omega arith)
+name-at directory (suc k) h = let e : k ≡ suc k - 1 = omega arith in ap (λ (i : ℕ). getD directory i 0) e
 
 -- what a number that names an entry says
 pub record NamedAt (directory : List ℕ) (n : ℕ) : Type 0 where
@@ -20,7 +25,7 @@ pub record NamedAt (directory : List ℕ) (n : ℕ) : Type 0 where
   pub within : n ≤ length directory
   pub named : T (not (eqb (nameAt directory n) purged))
 
-pub is-named : (directory : List ℕ) (n : ℕ) → T (isNamed directory n) → NamedAt directory n
+pub is-named : (directory : List ℕ) (n : ℕ) → T (isEntry directory n) → NamedAt directory n
 is-named directory n t =
     let q = allOf-each (numberTests directory n) t in
     record { above = ltb→lt 0 n (q .0); within = leb→le n (length directory) (q .1 .0); named = q .1 .1 .0 }
@@ -53,7 +58,7 @@ unfolding entryOf
 name-entry directory w t =
     let q = found w 1 directory t in
     let e : 1 + q .0 - 1 ≡ q .0 = omega arith in
-    ap (nameAt directory) (q .1) ∙ ap (λ (k : ℕ). getD directory k 0) e ∙ q .2
+    ap (nameAt directory) (q .1) ∙ name-at directory (1 + q .0) (omega arith) ∙ ap (λ (k : ℕ). getD directory k 0) e ∙ q .2
 
 -- FROM THE NUMBER: the name at a number has that number, where no name stands twice
 entry-at : (n k : ℕ) (xs : List ℕ) → k < length xs → T (not (eqb (getD xs k 0) purged)) → T (noTwo sameName xs) → entryFrom (getD xs k 0) n xs ≡ n + k
@@ -75,21 +80,23 @@ entry-at n (suc k) (x ∷ xs) h t o =
     differs : w ≡ x → ⊥
     differs e = T-not (any (sameName x) xs) (q .0) (any-at (sameName x) xs k (omega arith) (again e))
 
-module _ (directory : List ℕ) (once : T (noTwo sameName directory)) (n : ℕ) (at : T (isNamed directory n)) where
+module _ (directory : List ℕ) (once : T (noTwo sameName directory)) (n : ℕ) (at : T (isEntry directory n)) where
   pub entry-name : entryOf directory (nameAt directory n) ≡ n
   unfolding entryOf
   entry-name =
       let q = is-named directory n at in
       let a : 0 < n = q .above in
       let b : n ≤ length directory = q .within in
-      entry-at 1 (n - 1) directory (omega arith) (q .named) once ∙ omega arith
+      let w : nameAt directory n ≡ getD directory (n - 1) 0 = name-at directory n a in
+      ap (λ (x : ℕ). entryFrom x 1 directory) w ∙ entry-at 1 (n - 1) directory (omega arith) (subst (λ (x : ℕ). T (not (eqb x purged))) w (q .named)) once ∙ omega arith
 
   pub name-member : T (member (nameAt directory n) directory)
   name-member =
       let q = is-named directory n at in
       let a : 0 < n = q .above in
       let b : n ≤ length directory = q .within in
-      any-at (eqb (nameAt directory n)) directory (n - 1) (omega arith) (eqb-refl (nameAt directory n))
+      let w : nameAt directory n ≡ getD directory (n - 1) 0 = name-at directory n a in
+      any-at (eqb (nameAt directory n)) directory (n - 1) (omega arith) (subst (λ (x : ℕ). T (eqb (nameAt directory n) x)) w (eqb-refl (nameAt directory n)))
 
 -- a purged entry is no name
 purged-no-name : T (isNameWord purged) → ⊥

@@ -1,4 +1,4 @@
--- In a growth the old cards stand in their order through all parts: one part after another, each with its deck card first.
+-- In a growth the old cards stand in their order through all parts, each deck with its deck card first.
 use Prim.Native.Nat.{ℕ}
 use mathlib.Core.Path.{refl}
 use mathlib.Core.List.{List, [], _++_, map}

@@ -1,9 +1,9 @@
--- An image that the check accepted is the image of the library that was read, so its parts are that library's tables and cards.
+-- An accepted image is the image of the library that was read: its parts are that library's tables and cards.
 --   accepted-is                                  it is the image of one
 --   read-sound, read-small                       which is sound and within the limits
 --   header-is, counts-are, entries-are, decks-are, image-long, readable   its counts
 --   directory-is, names-are, cards-are           its parts
-use Prim.Native.Nat.{ℕ, suc, _+_, _/_, _%_, _^_, _≤_}
+use Prim.Native.Nat.{ℕ, suc, _+_, _/_, _%_, _^_}
 use native.Mathlib.Omega.{arith}
 use mathlib.Core.Path.{_≡_, refl, sym, ap, _∙_}
 use mathlib.Core.List.{List, _++_, append-assoc}
@@ -19,7 +19,7 @@ use Rattle.library.specs.declared.Fault.{Fault}
 use Rattle.library.specs.declared.Checked.the-variants.{Sound as Accepts, Refused as Rejects}
 use Rattle.library.proofs.CheckEncode.{check-encode}
 use Rattle.library.proofs.CheckSound.{check-sound}
-use Rattle.library.proofs.Sizes.{words, encode-length, Small, within-small}
+use Rattle.library.proofs.LimitsByCount.{words, encode-length, Small, within-small}
 
 pub accepted-is : (ws : List ℕ) → checked (check ws) ≡ Accepts → (l : Library) × (check ws ≡ good l)
 accepted-is ws e = go (check ws) refl e

@@ -1,4 +1,4 @@
--- Numbers of names as a directory grows: known names keep theirs, and names that it lacked get the numbers after its count, one each.
+-- As a directory grows, known names keep their numbers and new ones get the numbers after its count.
 use Prim.Native.Nat.{ℕ, suc, _+_, _≤_, _<_}
 use native.Mathlib.Omega.{arith}
 use native.Mathlib.Decide.{ℕ-discrete}
@@ -8,7 +8,7 @@ use mathlib.Core.List.{List, [], _∷_, _++_, append-assoc}
 use lib.Dec.{T, eqb, eqb-refl, eqb→eq}
 use lib.ListN.{length, length-append}
 use Rattle.words.specs.Base.{if_then_else_, member}
-use Rattle.words.proofs.Tests.{T-true}
+use Rattle.words.proofs.TestParts.{T-true}
 use Rattle.library.specs.Library.{entryFrom, entryOf}
 use Rattle.library.specs.Growth.{Unknown}
 

@@ -1,16 +1,17 @@
--- No two elements of a list alike: tested with those ahead of each, as the check does, or with those behind it.
+-- No two elements of a list alike: tested with those ahead of each, or with those behind it.
 use Prim.Native.Nat.{ℕ}
-use mathlib.Core.Path.{_≡_, refl, sym, ap, ap₂, subst}
+use mathlib.Core.Path.{_≡_, refl, ap, ap₂, subst}
 use mathlib.Core.Bool.{Bool, true, false, _&&_, _||_, not}
 use mathlib.Core.List.{List, [], _∷_, _++_, map}
 use lib.Dec.{T, T-not, not-T, eqb, eqb→eq, eqb-refl}
+use Rattle.library.proofs.AnyAndAll.{any-map}
 use Rattle.words.specs.Base.{any}
-use Rattle.words.proofs.Tests.{and-both}
+use Rattle.words.proofs.TestParts.{and-both}
 use Rattle.library.specs.Each.{Each}
 use Rattle.library.specs.Library.{Card}
 use Rattle.library.specs.Sound.{noTwo, sameCard}
-use Rattle.library.proofs.Each.{each-map, each-two, and-parts}
-use Rattle.library.proofs.Appends.{each-append, each-parts}
+use Rattle.library.proofs.EachTest.{each-map, each-two, and-parts}
+use Rattle.library.proofs.AppendedLists.{each-append, each-parts}
 
 or-left : (a b : Bool) → T (not (a || b)) → T (not a)
 or-left true b t = t
@@ -57,10 +58,6 @@ module _ {A : Type 0} (alike : A → A → Bool) (turn : (x y : A) → T (alike 
       let p = and-parts (not (any (alike x) xs)) (noTwo alike xs) t in
       let free-x = each-two _ _ (λ y. T (not (any (alike y) (x ∷ ahead)))) (λ y u v. or-neither (alike y x) (any (alike y) ahead) (not-turn x y v) u) xs (h .1) (any-none (alike x) xs (p .0)) in
       and-both (not (any (alike x) ahead)) (freeAfter alike (x ∷ ahead) xs) (h .0) (no-two-free (x ∷ ahead) xs free-x (p .1))
-
-pub any-map : {A B : Type 0} (p : B → Bool) (f : A → B) (xs : List A) → any p (map f xs) ≡ any (λ x. p (f x)) xs
-any-map p f [] = refl
-any-map p f (x ∷ xs) = ap (λ (b : Bool). p (f x) || b) (any-map p f xs)
 
 pub no-two-map : {A B : Type 0} (alike : B → B → Bool) (f : A → B) (xs : List A) → noTwo alike (map f xs) ≡ noTwo (λ x y. alike (f x) (f y)) xs
 no-two-map alike f [] = refl

@@ -11,19 +11,19 @@ use lib.Seq.{drop-at}
 use Rattle.words.specs.Base.{if_then_else_, all, same, placeFrom}
 use Rattle.words.specs.Display.{inChart}
 use Rattle.words.specs.Text.{trim, textWords, says, isText}
-use Rattle.words.proofs.Tests.{T-true, and-both, same-eq, same-refl}
+use Rattle.words.proofs.TestParts.{T-true, and-both, same-eq, same-refl}
 use Rattle.words.proofs.TextTrip.{says-written, written-is-text, written-fits}
 use Rattle.library.specs.Each.{Each}
 use Rattle.library.specs.Library.{Byte, Card, history}
 use Rattle.library.specs.Yanks.{active}
 use Rattle.library.specs.Image.{byteBits, headWords, cardWords}
-use Rattle.library.specs.Sound.{lineTests, soundLine, isNamed, neverFalls}
+use Rattle.library.specs.Sound.{lineTests, soundLine, isEntry, neverFalls}
 use Rattle.library.specs.declared.Fault.the-variants.{Form, Text}
 use Rattle.library.specs.Check.{Stored, isLastWord, byteOf, Fields, cardOf, formTests, okForm, Cards, cards, fault, also, storedOf, readCard, readCards}
-use Rattle.library.proofs.Each.{each-map, all-each, allOf-each, each-allOf}
+use Rattle.library.proofs.EachTest.{each-map, all-each, allOf-each, each-allOf}
 use Rattle.library.proofs.EntryNames.{is-named}
-use Rattle.library.proofs.Dealt.{Dealt, dealtWords}
-use Rattle.library.proofs.Reading.{Fit}
+use Rattle.library.proofs.DealtCards.{Dealt, dealtWords}
+use Rattle.library.proofs.ReadAsWritten.{Fit}
 use Rattle.library.proofs.BytesBack.{Low, number-back, flag-back, raw-bytes, bytes-back, rising-back, bytes-named}
 use Rattle.library.proofs.FieldsBack.{Raw, count-back, head-end, fields-back}
 
@@ -33,7 +33,7 @@ pub record LineSays (l : List ℕ) : Type 0 where
   pub short : length l ≤ 80
   pub trimmed : trim l ≡ l
 
-line-says : (l : List ℕ) → T (soundLine l) → LineSays l
+pub line-says : (l : List ℕ) → T (soundLine l) → LineSays l
 line-says l t =
     let q = allOf-each (lineTests l) t in
     record { charted = T-true (all inChart l) (q .0); short = leb→le (length l) 80 (q .1 .0); trimmed = same-eq (trim l) l (q .1 .1 .0) }
@@ -59,8 +59,8 @@ onFields directory n k f next =
     else also (storedOf n f) (next (k + length (f .text)))
 
 module _ (directory : List ℕ) (entries : length directory ≤ 1023) (yk : ℕ → Bool) (c : Card) (fit : Fit directory c) where
-  named : Each (λ b. T (isNamed directory (b .number))) (history c)
-  named = all-each (λ b. isNamed directory (b .number)) (history c) (fit .sound .named)
+  named : Each (λ b. T (isEntry directory (b .number))) (history c)
+  named = all-each (λ b. isEntry directory (b .number)) (history c) (fit .sound .named)
 
   low : Each Low (history c)
   low = each-map _ _ (λ b t. let q = is-named directory (b .number) t in (q .above, omega (arith, q .within))) (history c) named

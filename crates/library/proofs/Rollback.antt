@@ -1,4 +1,4 @@
--- The flags after a rollback: where the sets lo + 1 to top are taken back by the YANK cards of set top + 1, each number up to lo is yanked
+-- After sets are taken back each lower number is yanked where it was, and those sets are yanked everywhere.
 -- where it was, and those sets are yanked everywhere; so old cards are as active as they were, and cards of those sets are inactive.
 -- It goes over whatever a card of YANK$$$ acts on (Target, covers).
 use Prim.Native.Nat.{ℕ, suc, _≤_, _<_}
@@ -8,16 +8,16 @@ use mathlib.Core.Path.{_≡_, refl, sym, ap, ap₂, _∙_, fun-ext}
 use mathlib.Core.Bool.{Bool, true, false, _&&_, _||_}
 use mathlib.Core.List.{List, [], _∷_, _++_, map}
 use lib.Dec.{T}
+use Rattle.words.proofs.TestParts.{or-true, or-false, and-true, and-false}
 use Rattle.words.specs.Base.{if_then_else_, any, member}
 use Rattle.library.specs.Each.{Each}
 use Rattle.library.specs.Library.{Byte, Card, history}
 use Rattle.library.specs.Yanks.{lastSays, Target, covers, targets, Yank, yankedBy, Solves, settled}
 use Rattle.library.specs.Settled.{NamesLower}
 use Rattle.library.specs.Growth.{NewCard, KeptCard, GrownCards, noCards, keptCard, addedCard}
-use Rattle.library.proofs.Each.{each-map}
-use Rattle.library.proofs.Appends.{any-append, map-append}
-use Rattle.library.proofs.Anys.{or-true, or-false, and-true, and-false}
-use Rattle.library.proofs.Settle.{says-agree, solves-unique, settled-solves}
+use Rattle.library.proofs.EachTest.{each-map}
+use Rattle.library.proofs.AppendedLists.{any-append, map-append}
+use Rattle.library.proofs.OneSolution.{says-agree, solves-unique, settled-solves}
 
 -- HISTORIES
 pub says-append : (f : ℕ → Bool) (so : Bool) (bs cs : List Byte) → lastSays f so (bs ++ cs) ≡ lastSays f (lastSays f so bs) cs

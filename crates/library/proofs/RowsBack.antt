@@ -6,41 +6,41 @@ use mathlib.Core.List.{List, [], _∷_, _++_, map, append-nil}
 use mathlib.Core.Option.{none}
 use lib.Dec.{T, eqb, eqb-refl}
 use Rattle.words.specs.Base.{same}
-use Rattle.words.proofs.Tests.{T-true, and-both, same-refl}
+use Rattle.words.proofs.TestParts.{T-true, and-both, same-refl}
 use Rattle.library.specs.Each.{Each}
 use Rattle.library.specs.Library.{Card, Deck, Library, deckCard, history, nameAt, entryOf, deckNames}
 use Rattle.library.specs.Yanks.{active}
 use Rattle.library.specs.Image.{byteBits}
-use Rattle.library.specs.Sound.{isNamed, namesLowerSets, BeginsNoDeck, SoundDeck, Sound}
-use Rattle.library.specs.Check.{Stored, row7, Parted, partAt, partsOf, okYank, row8, row10, okBits, row9From}
-use Rattle.library.proofs.Each.{all-each}
+use Rattle.library.specs.Sound.{isEntry, namesLowerSets, BeginsNoDeck, SoundDeck, Sound}
+use Rattle.library.specs.Check.{row7, Parted, partAt, partedBy, row8, row10, okBits, row9From}
+use Rattle.library.proofs.EachTest.{all-each}
 use Rattle.library.proofs.EntryNames.{entry-name}
 use Rattle.library.proofs.CardRows.{once-row10}
-use Rattle.library.proofs.Dealt.{Dealt, dealtTo, dealtDecks, dealt, dealt-stream}
+use Rattle.library.proofs.DealtCards.{Dealt, dealtTo, dealtDecks, dealt, dealt-stream}
 use Rattle.library.proofs.ReadBack.{storedAt, storedFrom, past}
 
 -- the number of a sound deck is that of a name
-pub deck-named : (directory : List ℕ) (d : Deck) → SoundDeck directory d → T (isNamed directory (d .number))
-deck-named directory d s = all-each (λ b. isNamed directory (b .number)) (history (deckCard d)) (s .first .named) .0
+pub deck-named : (directory : List ℕ) (d : Deck) → SoundDeck directory d → T (isEntry directory (d .number))
+deck-named directory d s = all-each (λ b. isEntry directory (b .number)) (history (deckCard d)) (s .first .named) .0
 
 module _ (l : Library) (s : Sound l) (yk : ℕ → ℕ → Bool) where
   abbrev directory : List ℕ
   directory = l .directory
 
   -- INTO PARTS: a run of cards that begin no deck goes ahead of what follows
-  parts-run : (deck : ℕ) (cs : List Card) → Each BeginsNoDeck cs → (rest : List Dealt) (p : Parted) → ((m : ℕ) → partsOf (storedFrom yk m rest) ≡ p)
-      → (n : ℕ) → partsOf (storedFrom yk n (dealtTo deck cs ++ rest)) ≡ record { first = cs ++ p .first; decks = p .decks }
+  parts-run : (deck : ℕ) (cs : List Card) → Each BeginsNoDeck cs → (rest : List Dealt) (p : Parted) → ((m : ℕ) → partedBy (storedFrom yk m rest) ≡ p)
+      → (n : ℕ) → partedBy (storedFrom yk n (dealtTo deck cs ++ rest)) ≡ record { first = cs ++ p .first; decks = p .decks }
   parts-run deck [] h rest p k n = k n
   parts-run deck (c ∷ cs) h rest p k n = let q = parts-run deck cs (h .1) rest p k (past (yk deck) n c) in λ i. partAt (h .0 i) c (q i)
 
-  parts-decks : (ds : List Deck) → Each (SoundDeck directory) ds → (n : ℕ) → partsOf (storedFrom yk n (dealtDecks ds)) ≡ record { first = []; decks = ds }
+  parts-decks : (ds : List Deck) → Each (SoundDeck directory) ds → (n : ℕ) → partedBy (storedFrom yk n (dealtDecks ds)) ≡ record { first = []; decks = ds }
   parts-decks [] h n = refl
   parts-decks (d ∷ ds) h n =
       let q = parts-run (d .number) (d .cards) (h .0 .others) (dealtDecks ds) (record { first = []; decks = ds }) (parts-decks ds (h .1)) (past (yk (d .number)) n (deckCard d)) in
       (λ i. partAt (h .0 .title i) (deckCard d) (q i))
       ∙ (λ i. record { first = []; decks = record { number = d .number; common = d .common; line = d .line; cards = append-nil (d .cards) i } ∷ ds })
 
-  pub parts-back : (n : ℕ) → partsOf (storedFrom yk n (dealt l)) ≡ record { first = l .yanks; decks = l .decks }
+  pub parts-back : (n : ℕ) → partedBy (storedFrom yk n (dealt l)) ≡ record { first = l .yanks; decks = l .decks }
   parts-back n =
       parts-run 0 (l .yanks) (s .others) (dealtDecks (l .decks)) (record { first = []; decks = l .decks }) (parts-decks (l .decks) (s .decks)) n
       ∙ (λ i. record { first = append-nil (l .yanks) i; decks = l .decks })
@@ -69,9 +69,6 @@ module _ (l : Library) (s : Sound l) (yk : ℕ → ℕ → Bool) where
       row7-run end 0 (map (λ d. nameAt directory (d .number)) (l .decks)) (l .yanks) (s .others) (dealtDecks (l .decks)) (row7-decks end (l .decks) (s .decks)) n
 
   -- ROW 8: only the cards ahead of the decks are looked at
-  abbrev ok : Stored → Bool
-  ok = okYank directory (deckNames l)
-
   row8-decks : (ds : List Deck) → Each (SoundDeck directory) ds → (n : ℕ) → row8 directory (deckNames l) (storedFrom yk n (dealtDecks ds)) ≡ none
   row8-decks [] h n = refl
   row8-decks (d ∷ ds) h n = rw (h .0 .title)

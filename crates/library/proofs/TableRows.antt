@@ -1,19 +1,19 @@
--- Rows 1 to 4 read as facts on the directory and the deck list, and such facts as rows that find no fault.
+-- Rows 1 to 4 that find no fault, as facts on the directory and the deck list, both ways.
 use Prim.Native.Nat.{ℕ, suc}
 use native.Mathlib.Omega.{arith}
 use mathlib.Core.Path.{_≡_, refl, sym, ap, _∙_, subst}
 use mathlib.Core.Bool.{Bool, true, false, _&&_, _||_, not}
 use mathlib.Core.List.{List, [], _∷_}
 use mathlib.Core.Option.{Option, none, some}
-use lib.Dec.{T, eqb, eqb→eq, eqb-refl}
+use lib.Dec.{T, eqb, eqb→eq}
 use Rattle.words.specs.Base.{if_then_else_, any, all, member, isNil, placeFrom}
 use Rattle.words.specs.Names.{isNameWord}
-use Rattle.words.proofs.Tests.{and-both}
+use Rattle.words.proofs.TestParts.{and-both, eqb-turn}
 use Rattle.library.specs.Each.{Each}
 use Rattle.library.specs.Library.{reserved, purged}
 use Rattle.library.specs.Sound.{noTwo, soundEntry, sameName}
 use Rattle.library.specs.Check.{firstOf, faultIf, firstBad, okEntry, okDeckWord}
-use Rattle.library.proofs.Each.{and-parts}
+use Rattle.library.proofs.EachTest.{and-parts}
 use Rattle.library.proofs.NoTwo.{freeAfter, free-no-two, no-two-free}
 
 -- ROWS THAT FIND NOTHING
@@ -96,11 +96,8 @@ entry-test ahead w = go (eqb w purged) (isNameWord w && not (eqb w reserved)) (m
     go false true false = refl
     go false false m = refl
 
-pub eqb-turn : (v w : ℕ) → T (eqb v w) → T (eqb w v)
-eqb-turn v w t = subst (λ (x : ℕ). T (eqb w x)) (sym (eqb→eq v w t)) (eqb-refl w)
-
-same-turn : (v w : ℕ) → T (sameName v w) → T (sameName w v)
-same-turn v w t =
+pub same-name-turn : (v w : ℕ) → T (sameName v w) → T (sameName w v)
+same-name-turn v w t =
     let q = and-parts (eqb v w) (not (eqb v purged)) t in
     let e : v ≡ w = eqb→eq v w (q .0) in
     and-both (eqb w v) (not (eqb w purged)) (eqb-turn v w (q .0)) (subst (λ (x : ℕ). T (not (eqb x purged))) e (q .1))
@@ -130,10 +127,10 @@ free-none (x ∷ xs) = (tt, free-none xs)
 pub entries-sound : (n : ℕ) (ws : List ℕ) → firstBad okEntry [] n ws ≡ none → T (all soundEntry ws) × T (noTwo sameName ws)
 entries-sound n ws e =
     let q = after-entries [] ws (bad-none okEntry [] n ws e) in
-    (q .0, free-no-two sameName same-turn [] ws (q .1) .1)
+    (q .0, free-no-two sameName same-name-turn [] ws (q .1) .1)
 
 pub sound-entries : (n : ℕ) (ws : List ℕ) → T (all soundEntry ws) → T (noTwo sameName ws) → firstBad okEntry [] n ws ≡ none
-sound-entries n ws s o = none-bad okEntry [] n ws (entries-after [] ws s (no-two-free sameName same-turn [] ws (free-none ws) o))
+sound-entries n ws s o = none-bad okEntry [] n ws (entries-after [] ws s (no-two-free sameName same-name-turn [] ws (free-none ws) o))
 
 -- THE DECK LIST: YANK$$$, then names of the directory, none twice
 abbrev pub isListed : List ℕ → ℕ → Bool

@@ -10,18 +10,18 @@ use Rattle.words.specs.Base.{all, isNil}
 use Rattle.words.specs.Base.{isWord}
 use Rattle.words.specs.Text.{textWords}
 use Rattle.words.specs.Names.{isNameWord}
-use Rattle.words.proofs.Tests.{and-both, all-append}
-use Rattle.words.proofs.Sixty.{text-isWord, name-isWord}
+use Rattle.words.proofs.TestParts.{and-both, all-append}
+use Rattle.words.proofs.SixtyBits.{text-isWord, name-isWord}
 use Rattle.library.specs.Each.{Each}
 use Rattle.library.specs.Library.{Card, Deck, Library, history, nameAt, reserved, purged, deckNames}
 use Rattle.library.specs.Yanks.{active}
 use Rattle.library.specs.Image.{bit, byteBits, furtherWords, headWords, cardWords, header, counts, tables}
-use Rattle.library.specs.Sound.{isNamed, soundEntry, SoundDeck, Sound}
-use Rattle.library.proofs.Each.{and-parts, each-map, all-each, each-all}
-use Rattle.library.proofs.EntryNames.{is-named}
-use Rattle.library.proofs.Dealt.{Dealt, dealtWords}
+use Rattle.library.specs.Sound.{isEntry, soundEntry, SoundDeck, Sound}
+use Rattle.library.proofs.EachTest.{and-parts, each-map, all-each, each-all}
+use Rattle.library.proofs.EntryNames.{is-named, name-at}
+use Rattle.library.proofs.DealtCards.{Dealt, dealtWords}
 use Rattle.library.proofs.FieldsBack.{Raw}
-use Rattle.library.proofs.Reading.{Fit}
+use Rattle.library.proofs.ReadAsWritten.{Fit}
 use Rattle.library.proofs.ReadBack.{raw, line, text-few}
 use Rattle.library.proofs.RowsBack.{deck-named}
 
@@ -82,12 +82,12 @@ all-at p (x ∷ xs) zero h t = and-parts (p x) (all p xs) t .0
 all-at p (x ∷ xs) (suc k) h t = all-at p xs k (omega arith) (and-parts (p x) (all p xs) t .1)
 
 -- the entry at a number that names one is sound
-pub entry-sound : (directory : List ℕ) (n : ℕ) → T (all soundEntry directory) → T (isNamed directory n) → T (soundEntry (nameAt directory n))
+pub entry-sound : (directory : List ℕ) (n : ℕ) → T (all soundEntry directory) → T (isEntry directory n) → T (soundEntry (nameAt directory n))
 entry-sound directory n t at =
     let q = is-named directory n at in
     let a : 0 < n = q .above in
     let b : n ≤ length directory = q .within in
-    all-at soundEntry directory (n - 1) (omega arith) t
+    subst (λ (x : ℕ). T (soundEntry x)) (sym (name-at directory n a)) (all-at soundEntry directory (n - 1) (omega arith) t)
 
 names-isWord : (directory : List ℕ) (ds : List Deck) → T (all soundEntry directory) → Each (SoundDeck directory) ds → T (all isWord (map (λ d. nameAt directory (d .number)) ds))
 names-isWord directory [] t h = tt

@@ -9,17 +9,17 @@ use lib.ListN.{length}
 use Rattle.words.specs.Base.{if_then_else_, all}
 use Rattle.words.specs.Display.{inChart}
 use Rattle.words.specs.Names.{isName, nameWord, isNameWord}
-use Rattle.words.proofs.Tests.{T-true, true-T}
+use Rattle.words.proofs.TestParts.{T-true, true-T}
 use Rattle.words.proofs.NameTrip.{word-of-name-is-one}
-use Rattle.lines.specs.Directive.{kindOfLine, field, isClean, params, formed, asks, asked, directive, yankNames}
-use Rattle.lines.specs.declared.Kind.{Kind}
-use Rattle.lines.specs.declared.Kind.the-variants.{Yank as kYank}
-use Rattle.lines.specs.declared.Line.{Line}
-use Rattle.lines.specs.declared.Line.the-variants.{Text, Skipped, Deck, Comdeck, Ident, Insert, Before, Delete, Restore, Yank, Outside, Long, Malformed, NotCarried}
-use Rattle.lines.proofs.Asked.{Says, line-says}
+use Rattle.words_lines.specs.Directive.{kindOfLine, field, isClean, params, formed, asks, asked, directive, yankNames}
+use Rattle.words_lines.specs.declared.Kind.{Kind}
+use Rattle.words_lines.specs.declared.Kind.the-variants.{Yank as kYank}
+use Rattle.words_lines.specs.declared.Line.{Line}
+use Rattle.words_lines.specs.declared.Line.the-variants.{Text, Skipped, Deck, Comdeck, Ident, Insert, Before, Delete, Restore, Yank, Outside, Long, Malformed, NotCarried}
+use Rattle.words_lines.proofs.AskedLine.{Says, line-says}
 use Rattle.library.specs.Each.{Each}
 use Rattle.library.specs.Yanks.{isYank}
-use Rattle.library.proofs.Each.{all-each, each-map, each-of-map}
+use Rattle.library.proofs.EachTest.{all-each, each-map, each-of-map}
 
 yank-kind : (k : Kind) (a : Line) → Says k a → T (isYank a) → k ≡ kYank
 yank-kind k Yank h t = h

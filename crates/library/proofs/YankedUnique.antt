@@ -1,4 +1,4 @@
--- In a sound library every card of YANK$$$ names lower numbers than its history has, so the yank rule has exactly one solution.
+-- In a sound library cards of YANK$$$ name lower numbers than their own, so the rule has exactly one solution.
 use Prim.Native.Nat.{ℕ, _≤_, _<_}
 use native.Mathlib.Omega.{arith}
 use mathlib.Core.Path.{_≡_}
@@ -7,17 +7,17 @@ use mathlib.Core.List.{List, [], _∷_}
 use lib.Dec.{T, eqb, eqb→eq, ltb, ltb→lt, leb, leb→le}
 use lib.ListN.{length}
 use Rattle.words.specs.Base.{any, all, member}
-use Rattle.lines.specs.Directive.{directive}
+use Rattle.words_lines.specs.Directive.{directive}
 use Rattle.library.specs.Each.{Each}
 use Rattle.library.specs.Library.{Byte, Card, Library, history, nameAt, deckNames}
 use Rattle.library.specs.Yanks.{Target, wholeSet, covers, isYank, targets, yanksOf, settledYanks}
 use Rattle.library.specs.Settled.{NamesLower}
 use Rattle.library.specs.Check.{okTarget}
-use Rattle.library.specs.Sound.{isNamed, neverFalls, namesLowerSets, SoundCard, Sound}
+use Rattle.library.specs.Sound.{isEntry, neverFalls, namesLowerSets, SoundCard, Sound}
 use Rattle.library.specs.Exact.{YankedSolves, YankedUnique}
-use Rattle.library.proofs.Each.{each-map, each-two, each-of-map, and-parts, all-each}
+use Rattle.library.proofs.EachTest.{each-map, each-two, each-of-map, and-parts, all-each}
 use Rattle.library.proofs.EntryNames.{is-named}
-use Rattle.library.proofs.Settle.{settled-solves, solves-unique}
+use Rattle.library.proofs.OneSolution.{settled-solves, solves-unique}
 
 -- a history that never falls has no number below its first
 pub falls-none : (n : ℕ) (bs : List Byte) → T (neverFalls n bs) → Each (λ b. n ≤ b .number) bs
@@ -55,7 +55,7 @@ card-lower l c s t n u =
     let ok : T (all (okTarget (l .directory) (deckNames l) (c .owner)) ts) = and-parts (isYank (directive (c .line))) (all (okTarget (l .directory) (deckNames l) (c .owner)) ts) t .1 in
     let q = covers-lower (l .directory) (deckNames l) (c .owner) n ts ok u in
     let lo : n < c .owner = q .1 in
-    let own : c .owner ≤ length (l .directory) = is-named (l .directory) (c .owner) (all-each (λ b. isNamed (l .directory) (b .number)) (history c) (s .named) .0) .within in
+    let own : c .owner ≤ length (l .directory) = is-named (l .directory) (c .owner) (all-each (λ b. isEntry (l .directory) (b .number)) (history c) (s .named) .0) .within in
     (q .0, omega arith, (lo, each-map (λ b. c .owner ≤ b .number) _ (λ b r. omega (arith, r)) (c .later) (falls-none (c .owner) (c .later) (s .rises))))
 
 pub yanks-lower : (l : Library) → Sound l → Each (NamesLower (length (l .directory))) (yanksOf l)

@@ -1,4 +1,4 @@
--- Libraries that differ only in the text of inactive cards (01, "The compile file"). A deck card is active, so its text is the same.
+-- PROMISE. Libraries that are the same but for lines of cards that are not active (RULES, "The compile file"). A deck card is active, so its line is the same.
 --   lists side by side     Pairwise
 --   cards, decks           LikeCard, LikeDeck
 --   libraries              Alike

@@ -1,13 +1,13 @@
--- The library check (01, rows 1 to 10 of the answers, their order and their places).
---   answers            Checking, faultNumber, checkedNumber, checkedPlace
+-- MEANING. The library check (RULES, "The check"): rows 1 to 10 of the table, their order and their places.
+--   answers            Checking, checked, faultNumber, checkedNumber, checkedPlace, orElse
 --   the layout         directoryCount, deckCount, directoryOf, deckWordsOf, cardsPlace
---   rows over words    row1, row2, row3, row4
---   rows 5 and 6       Stored, readCard, readCards
---   rows over cards    row7, row8, row9, row10
---   the check          partsOf, check, checked
-use Prim.Native.Nat.{ℕ, zero, suc, _+_, _-_, _*_, _/_, _%_, _^_}
+--   rows over words    row1, row2, tableFaults, row3, firstBad, okEntry, okDeckWord, row4
+--   rows 5 and 6       Stored, isLastWord, rawBytes, used, byteOf, Fields, fieldsOf, cardOf, rising, okByte, formTests, okForm, Cards, readCard, readCards
+--   rows over cards    isDeckCard, okDeckCard, row7, aheadOfDecks, okTarget, okYank, row8, sharesBoth, row10, okBits, row9
+--   the check          Parted, partedBy, libraryOf, checkCards, check
+use Prim.Native.Nat.{ℕ, zero, suc, _+_, _/_, _%_, _^_}
 use mathlib.Core.Bool.{Bool, true, false, _&&_, _||_, not, Bool·beq}
-use mathlib.Core.List.{List, [], _∷_, _++_, map}
+use mathlib.Core.List.{List, [], _∷_, map}
 use mathlib.Core.Option.{Option, none, some}
 use lib.Dec.{eqb, ltb, leb}
 use lib.ListN.{length, getD, take, drop}
@@ -15,7 +15,7 @@ use Rattle.words.specs.Base.{if_then_else_, any, all, allOf, anyOf, member, sam
 use Rattle.words.specs.Base.{isWord}
 use Rattle.words.specs.Text.{says, isText}
 use Rattle.words.specs.Names.{isNameWord}
-use Rattle.lines.specs.Directive.{directive}
+use Rattle.words_lines.specs.Directive.{directive}
 use Rattle.library.specs.Library.{Byte, Card, Deck, Library, DeckLine, notDeck, badDeck, deckOf, deckLine, history, reserved, purged, nameAt, entryOf}
 use Rattle.library.specs.Yanks.{Target, wholeSet, isYank, targets, active, yanked}
 use Rattle.library.specs.Image.{header, byteBits, headWords}
@@ -82,7 +82,7 @@ deckWordsOf ws = take (deckCount ws) (drop (2 + directoryCount ws) ws)
 abbrev pub cardsPlace : List ℕ → ℕ
 cardsPlace ws = 2 + directoryCount ws + deckCount ws
 
--- ROW 1: "In 1 the lengths come first"; "word 65,536 of too long an image", "the image length for one under 3 words"
+-- ROW 1: under 3 words, at their count; then over 65,536 words, at 65,536; then a number that is no word, at the first one
 abbrev pub row1 : List ℕ → Option ℕ
 row1 ws =
     firstOf (faultIf (ltb (length ws) 3) (length ws))
@@ -92,7 +92,7 @@ row1 ws =
 abbrev pub row2 : List ℕ → Option ℕ
 row2 ws = faultIf (not (eqb (getD ws 0 0) header)) 0
 
--- ROW 3: "over 1,023 directory entries, no deck, over 255, tables past the end, word 2 not as laid out"
+-- ROW 3, at the second word: it has bits above 35, or counts over 1,023 entries, no deck or over 255, or more entries and decks than the image has words for
 abbrev pub tableFaults : List ℕ → List Bool
 tableFaults ws =
     leb (2 ^ 36) (getD ws 1 0)
@@ -104,7 +104,7 @@ tableFaults ws =
 abbrev pub row3 : List ℕ → Option ℕ
 row3 ws = faultIf (anyOf (tableFaults ws)) 1
 
--- ROW 4: the first word of a table that fails, each tested with those ahead of it ("the later of two equal names")
+-- ROW 4: the first word of a table that fails, each tested with those ahead of it, so that a name fails where it stands for the second time
 abbrev pub firstBad : (List ℕ → ℕ → Bool) → List ℕ → ℕ → List ℕ → Option ℕ
 firstBad ok ahead n [] = none
 firstBad ok ahead n (w ∷ ws) = let later = firstBad ok (w ∷ ahead) (suc n) ws in if ok ahead w then later else some n
@@ -112,7 +112,7 @@ firstBad ok ahead n (w ∷ ws) = let later = firstBad ok (w ∷ ahead) (suc n) w
 abbrev pub okEntry : List ℕ → ℕ → Bool
 okEntry ahead w = eqb w purged || (isNameWord w && not (eqb w reserved) && not (member w ahead))
 
--- "YANK$$$ first; every other name is in the directory, none twice"
+-- the list's first word is YANK$$$; each other one is a name that the directory has, and that did not stand in the list ahead of it
 abbrev pub okDeckWord : List ℕ → List ℕ → ℕ → Bool
 okDeckWord directory ahead w =
     if isNil ahead then eqb w reserved
@@ -172,7 +172,7 @@ abbrev pub cardOf : Fields → Card
 cardOf f =
     record { line = says (f .text); seq = f .seq; owner = getD (f .raw) 0 0 % 2 ^ 16; later = map byteOf (drop 1 (f .raw)) }
 
--- "Numbers in one history never fall and name no purged entry"
+-- no number of a history is below n, or below the number ahead of it; and each is that of an entry that is not purged
 abbrev pub rising : ℕ → List ℕ → Bool
 rising n [] = true
 rising n (b ∷ bs) = leb n (b % 2 ^ 16) && rising (b % 2 ^ 16) bs
@@ -184,7 +184,7 @@ abbrev pub firstActivates : List ℕ → Bool
 firstActivates [] = false
 firstActivates (b ∷ bs) = eqb (b / 2 ^ 16 % 2) 1
 
--- row 5: what these contents are written as is what is written, and the contents are allowed
+-- row 5, word by word in WordForm.antt: what these contents are written as is what is written, and the contents are allowed
 abbrev pub formTests : List ℕ → Fields → List Bool
 formTests directory f =
     ltb 0 (f .seq)
@@ -198,7 +198,7 @@ formTests directory f =
 abbrev pub okForm : List ℕ → Fields → Bool
 okForm directory f = allOf (formTests directory f)
 
--- all cards of the words from place n, 5 and 6 card by card; `left`: how many more are let in
+-- all cards of the words from place n, each tested for 5 and then for 6; `left`: how many more are let in
 pub data Cards : Type 0 where
   cards : List Stored → Cards
   fault : Fault → ℕ → Cards
@@ -225,7 +225,7 @@ readCards directory (suc left) [] n = cards []
 readCards directory (suc left) (w ∷ ws) n =
     readCard directory n (w ∷ ws) (placeFrom isLastWord 1 (w ∷ ws)) (λ k. readCards directory left (drop k (w ∷ ws)) (n + k))
 
--- ROW 7: each deck card is the next of the list; "the image length .. for missing deck cards"
+-- ROW 7: each deck card is that of the list's next name; where names are left after the last card, the place is `end`, the count of words
 abbrev pub isDeckLine : DeckLine → Bool
 isDeckLine notDeck = false
 isDeckLine badDeck = true
@@ -250,7 +250,7 @@ row7 directory names (s ∷ ss) end =
     else if okDeckCard directory names s (deckLine (s .card .line)) then after
     else some (s .place)
 
--- "Cards before the first deck card form YANK$$$"; each deck card begins a deck
+-- the cards of YANK$$$ go up to the first deck card; each deck card begins a deck
 pub record Parted : Type 0 where
   pub first : List Card
   pub decks : List Deck
@@ -261,12 +261,12 @@ partAt badDeck c p = record { first = c ∷ p .first; decks = p .decks }
 partAt (deckOf common w) c p =
     record { first = []; decks = record { number = c .owner; common = common; line = c .line; cards = p .first } ∷ p .decks }
 
-abbrev pub partsOf : List Stored → Parted
-partsOf [] = record { first = []; decks = [] }
-partsOf (s ∷ ss) = partAt (deckLine (s .card .line)) (s .card) (partsOf ss)
+abbrev pub partedBy : List Stored → Parted
+partedBy [] = record { first = []; decks = [] }
+partedBy (s ∷ ss) = partAt (deckLine (s .card .line)) (s .card) (partedBy ss)
 
 abbrev pub libraryOf : List ℕ → List Stored → Library
-libraryOf directory ss = let p : Parted = partsOf ss in record { directory = directory; yanks = p .first; decks = p .decks }
+libraryOf directory ss = let p : Parted = partedBy ss in record { directory = directory; yanks = p .first; decks = p .decks }
 
 -- the first card that fails a test
 abbrev pub firstFailing : (Stored → Bool) → List Stored → Option ℕ
@@ -277,7 +277,7 @@ abbrev pub aheadOfDecks : List Stored → List Stored
 aheadOfDecks [] = []
 aheadOfDecks (s ∷ ss) = if isDeckCard s then [] else (s ∷ aheadOfDecks ss)
 
--- ROW 8: "Every card of YANK$$$ is a YANK directive that names only sets (never decks) with lower numbers than its owner"
+-- ROW 8: each card of YANK$$$ is a well-formed YANK, and each name on it is in the directory, is no deck's, and has a number below the card's owner
 abbrev pub okTarget : List ℕ → List ℕ → ℕ → Target → Bool
 okTarget directory deckWords own (wholeSet n) = ltb 0 n && ltb n own && not (member (nameAt directory n) deckWords)
 
@@ -288,7 +288,7 @@ okYank directory deckWords s =
 abbrev pub row8 : List ℕ → List ℕ → List Stored → Option ℕ
 row8 directory deckWords ss = firstFailing (okYank directory deckWords) (aheadOfDecks ss)
 
--- ROW 10: "Owner and sequence number identify a card; no two cards share both"
+-- ROW 10: a card ahead has the same owner and the same sequence number
 abbrev pub sharesBoth : Stored → Stored → Bool
 sharesBoth s t = eqb (s .card .owner) (t .card .owner) && eqb (s .card .seq) (t .card .seq)
 
@@ -299,7 +299,7 @@ row10From ahead (s ∷ ss) = let later = row10From (s ∷ ahead) ss in if any (s
 abbrev pub row10 : List Stored → Option ℕ
 row10 ss = row10From [] ss
 
--- ROW 9: "Stored yank and activity bits agree with this", each card under what is yanked in its deck; a deck card begins one
+-- ROW 9: the stored bits are those that follow from the histories, each card under what is yanked in its deck; a deck card begins one
 abbrev pub okBits : (ℕ → Bool) → Stored → Bool
 okBits yk s = Bool·beq (s .act) (active yk (s .card)) && same (s .raw) (map (byteBits yk) (history (s .card)))
 
@@ -313,7 +313,7 @@ row9From yk deck (s ∷ ss) =
 abbrev pub row9 : Library → List Stored → Option ℕ
 row9 l ss = row9From (yanked l) 0 ss
 
--- THE CHECK: "1 to 4 each over the whole image, 5 and 6 card by card, then 7, 8, 10, 9"
+-- THE CHECK: 1, 2, 3, 4, then 5 and 6 together, then 7, 8, 10, 9; each over all words or cards ahead of the next
 abbrev pub checkCards : List ℕ → List ℕ → ℕ → Cards → Checking
 checkCards directory deckWords end (fault f p) = bad f p
 checkCards directory deckWords end (cards ss) =

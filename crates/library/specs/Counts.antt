@@ -1,4 +1,4 @@
--- The limits of a library by its counts (01, row 31: one of the limits of rows 1, 3 and 5 would be passed).
+-- MEANING. The limits of a library by its counts (RULES, "Limits"; row 31).
 --   countTests, withinCounts
 use Prim.Native.Nat.{ℕ}
 use mathlib.Core.Bool.{Bool}

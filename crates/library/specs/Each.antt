@@ -1,4 +1,4 @@
--- What holds of every element of a list.
+-- MEANING. What holds of every element of a list.
 --   Each
 use mathlib.Core.List.{List, [], _∷_}
 

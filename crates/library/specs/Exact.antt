@@ -1,4 +1,4 @@
--- The check accepts exactly the images of sound libraries (01, "The libraries we read and write"), and what they say has one reading (01, "When a card is active").
+-- PROMISE. The check accepts exactly the images of sound libraries (RULES, "The check"), and what they say has one reading (RULES, "When a card is active").
 --   the check        CheckEncode, CheckSound, EncodeCheck, CheckExact, EncodeOnce
 --   the yank rule    YankedSolves, YankedUnique
 --   not empty        FreshSound

@@ -1,4 +1,4 @@
--- How units change a library (01, "Directives": "no card is dropped or moved past another").
+-- PROMISE. How units change a library (RULES, "The run"): every old card stays, in its deck and its order.
 --   numbers and names     count, Within, Unknown, sameNames
 --   a card                NewCard, KeptCard
 --   the cards of a part   GrownCards

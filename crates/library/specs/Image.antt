@@ -1,12 +1,13 @@
--- The words a library is written in (01, "Header", "Directory", "Deck list", "Cards").
---   a card's words      byteBits, furtherWords, headWords, cardWords
---   a library's words   header, counts, encode
---   its limits          withinLimits
-use Prim.Native.Nat.{ℕ, zero, suc, _+_, _*_, _^_}
+-- MEANING. The words a library is written in (RULES, "Header", "Directory", "Deck list", "Cards", "Limits").
+--   a card's words      bit, byteBits, furtherWords, headWords, cardWords
+--   a library's words   cardsWords, decksWords, header, counts, tables, encode
+--   its limits          shortHistory, limitTests, withinLimits
+use Prim.Native.Nat.{ℕ, suc, _+_, _*_, _^_}
 use mathlib.Core.Bool.{Bool, true, false}
 use mathlib.Core.List.{List, [], _∷_, _++_, map}
 use lib.Dec.{leb}
 use lib.ListN.{length}
+use Rattle.words.specs.Display.{codes, codesWord}
 use Rattle.words.specs.Base.{all, allOf, isNil}
 use Rattle.words.specs.Text.{textWords}
 use Rattle.library.specs.Library.{Byte, Card, Deck, Library, history, deckCards, deckNames, stream}
@@ -17,18 +18,18 @@ abbrev pub bit : Bool → ℕ → ℕ
 bit true n = 2 ^ n
 bit false n = 0
 
--- "A byte: bit 17 yanked, bit 16 activating, 15-00 directory number"
+-- a byte: bit 17 where its number is yanked, bit 16 where it activates, its number in 15-00
 abbrev pub byteBits : (ℕ → Bool) → Byte → ℕ
 byteBits yk b = bit (yk (b .number)) 17 + bit (b .activating) 16 + b .number
 
--- "Further history words: 59 likewise .. three bytes from 53 down .. unused ones zero, and only in the last word"
+-- the bytes after the first, three to a word, in 53-36, 35-18 and 17-00; bit 59 is in the last word, and zeros where it has fewer than three
 abbrev pub furtherWords : List ℕ → List ℕ
 furtherWords [] = []
 furtherWords (a ∷ []) = (2 ^ 59 + a * 2 ^ 36) ∷ []
 furtherWords (a ∷ b ∷ []) = (2 ^ 59 + a * 2 ^ 36 + b * 2 ^ 18) ∷ []
 furtherWords (a ∷ b ∷ c ∷ r) = (bit (isNil r) 59 + a * 2 ^ 36 + b * 2 ^ 18 + c) ∷ furtherWords r
 
--- "First word: bit 59 set when no more history words follow, 58 activity, 57-54 zero, 53-36 words of text, 35-18 sequence number, 17-00 first history byte"
+-- the history words: the first has bit 59 if it is the only one, 58 if the card is active, in 53-36 how many words the text has, in 35-18 the sequence number, in 17-00 a byte
 abbrev pub headWords : Bool → ℕ → ℕ → List ℕ → List ℕ
 headWords act count seq [] = []
 headWords act count seq (b ∷ bs) = (bit (isNil bs) 59 + bit act 58 + count * 2 ^ 36 + seq * 2 ^ 18 + b) ∷ furtherWords bs
@@ -47,11 +48,11 @@ abbrev pub decksWords : (ℕ → ℕ → Bool) → List Deck → List ℕ
 decksWords yk [] = []
 decksWords yk (d ∷ ds) = cardsWords (yk (d .number)) (deckCards d) ++ decksWords yk ds
 
--- "CHECK in bits 59-30, zero in 29-24, character set 4 .. in 23-18, zero in 17-12, Y in 11-06, * in 05-00"
+-- the first word: ten codes, which are those of CHECK, 0, 4, 0, and those of Y and *
 abbrev pub header : ℕ
-header = 0o03100503130004003147
+header = codesWord (codes "CHECK" ++ (0 ∷ 4 ∷ 0 ∷ codes "Y*"))
 
--- "Word 2: directory count in 35-18, deck count in 17-00, else zero"
+-- the second word: how many entries there are in 35-18, how many decks, with YANK$$$, in 17-00
 abbrev pub counts : Library → ℕ
 counts l = length (l .directory) * 2 ^ 18 + suc (length (l .decks))
 

@@ -11,3 +11,4 @@ pub mod Alike
 pub mod Asked
 pub mod Counts
 pub mod Readable
+pub mod WordForm

@@ -1,24 +1,23 @@
--- What a library is (01, "The libraries we read and write").
+-- MEANING. What a library is (RULES, "Libraries", "Directory", "Deck list", "Cards", "Decks").
 --   bytes, cards, decks, libraries     Byte, Card, Deck, Library
 --   of a card                          history
 --   of a deck                          deckCard, deckCards
 --   of a library                       parts, stream, deckNames, fresh
---   of the directory                   reserved, purged, nameAt, entryOf
---   of a line                          DeckLine, deckLine
+--   of the directory                   reserved, purged, nameAt, hasName, entryOf
+--   of a line                          DeckLine, isDeckKind, deckAsked, deckLine
 -- Yank and activity bits are not here: they follow from the histories (Yanks.antt), and the image has them (Image.antt).
-use Prim.Native.Nat.{ℕ, zero, suc, _-_}
-use mathlib.Core.Bool.{Bool, true, false}
+use Prim.Native.Nat.{ℕ, zero, suc}
+use mathlib.Core.Bool.{Bool, true, false, _&&_, not}
 use mathlib.Core.List.{List, [], _∷_, _++_, map}
 use lib.Dec.{eqb}
 use lib.ListN.{getD}
-use Rattle.words.specs.Base.{if_then_else_, bytes}
-use Rattle.words.specs.Names.{nameWord}
-use Rattle.lines.specs.Directive.{directive, kindOfLine}
-use Rattle.lines.specs.declared.Kind.{Kind}
-use Rattle.lines.specs.declared.Kind.the-variants.{Text as kText, Skipped as kSkipped, NotCarried as kNotCarried, Deck as kDeck, Comdeck as kComdeck, Ident as kIdent, Insert as kInsert, Before as kBefore, Delete as kDelete, Restore as kRestore, Yank as kYank}
-use Rattle.lines.specs.declared.CardName.{CardName}
-use Rattle.lines.specs.declared.Line.{Line}
-use Rattle.lines.specs.declared.Line.the-variants.{Text, Skipped, Deck as DeckLine·, Comdeck, Ident, Insert, Before, Delete, Restore, Yank, Outside, Long, Malformed, NotCarried}
+use Rattle.words.specs.Display.{codes, codesWord}
+use Rattle.words.specs.Base.{if_then_else_, member}
+use Rattle.words_lines.specs.Directive.{directive, kindOfLine}
+use Rattle.words_lines.specs.declared.Kind.{Kind}
+use Rattle.words_lines.specs.declared.Kind.the-variants.{Text as kText, Skipped as kSkipped, NotCarried as kNotCarried, Deck as kDeck, Comdeck as kComdeck, Ident as kIdent, Insert as kInsert, Before as kBefore, Delete as kDelete, Restore as kRestore, Yank as kYank}
+use Rattle.words_lines.specs.declared.Line.{Line}
+use Rattle.words_lines.specs.declared.Line.the-variants.{Text, Skipped, Deck as DeckLine·, Comdeck, Ident, Insert, Before, Delete, Restore, Yank, Outside, Long, Malformed, NotCarried}
 
 -- a history byte: the directory number of a set or deck, and whether it switches the card on or off
 pub record Byte : Type 0 where
@@ -32,7 +31,7 @@ pub record Card : Type 0 where
   pub owner : ℕ
   pub later : List Byte
 
--- "The first byte names the card's owner and is activating"
+-- a card's bytes: the first is its owner's and switches it on
 abbrev pub history : Card → List Byte
 history c = record { number = c .owner; activating = true } ∷ c .later
 
@@ -43,7 +42,7 @@ pub record Deck : Type 0 where
   pub line : List ℕ
   pub cards : List Card
 
--- "A deck card .. is owned by that deck, numbered 1, with one byte"
+-- a deck's own card: its owner is the deck, its sequence number 1, and the owner's byte its only one
 abbrev pub deckCard : Deck → Card
 deckCard d = record { line = d .line; seq = 1; owner = d .number; later = [] }
 
@@ -67,16 +66,21 @@ joined (p ∷ ps) = p ++ joined ps
 unfoldable pub stream : Library → List Card
 stream l = joined (parts l)
 
--- "YANK$$$ is reserved and not in the directory"; "A purged entry is zero with 20 octal in the low six bits"
+-- the word of YANK$$$, which no entry is; the word of an entry that is purged
 abbrev pub reserved : ℕ
-reserved = 0o31011613535353000000
+reserved = codesWord (codes "YANK$$$" ++ (0 ∷ 0 ∷ 0 ∷ []))
 
 abbrev pub purged : ℕ
 purged = 0o20
 
--- "Entries are numbered from 1"
+-- the word of the entry numbered n: the first entry is 1, and 0 is the number of none
 abbrev pub nameAt : List ℕ → ℕ → ℕ
-nameAt directory n = getD directory (n - 1) 0
+nameAt directory zero = 0
+nameAt directory (suc n) = getD directory n 0
+
+-- whether it has a name: a purged entry is none
+abbrev pub hasName : List ℕ → ℕ → Bool
+hasName directory w = member w directory && not (eqb w purged)
 
 -- the number of a name, counted from n; 0 where the directory lacks it
 abbrev pub entryFrom : ℕ → ℕ → List ℕ → ℕ
@@ -86,14 +90,14 @@ entryFrom w n (x ∷ xs) = let later = entryFrom w (suc n) xs in if eqb w x then
 unfoldable pub entryOf : List ℕ → ℕ → ℕ
 entryOf directory w = entryFrom w 1 directory
 
--- "One word per deck in stream order, YANK$$$ first"
+-- the deck list: YANK$$$, then the name of each deck, in the order in which the decks stand
 unfoldable pub deckNames : Library → List ℕ
 deckNames l = reserved ∷ map (λ d. nameAt (l .directory) (d .number)) (l .decks)
 
 abbrev pub fresh : Library
 fresh = record { directory = []; yanks = []; decks = [] }
 
--- DECK CARDS: "A deck card's text is a DECK or COMDECK directive"
+-- DECK CARDS: a card begins a deck where its line has the name of DECK or COMDECK
 pub data DeckLine : Type 0 where
   notDeck badDeck : DeckLine
   deckOf : Bool → ℕ → DeckLine

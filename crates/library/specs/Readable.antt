@@ -1,4 +1,4 @@
--- An image that the check accepted, and what its counts say, so that its parts can be taken.
+-- CODE. An image that the check accepted, and what its counts say, so that its parts can be taken.
 --   Readable
 use Prim.Native.Nat.{ℕ, _+_, _/_, _%_, _^_, _≤_}
 use mathlib.Core.Path.{_≡_}

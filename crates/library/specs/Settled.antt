@@ -1,4 +1,4 @@
--- The yank rule has exactly one solution (01, "When a card is active": "so the rule is settled from the highest number down").
+-- PROMISE. The yank rule has exactly one solution (RULES, "When a card is active"): higher numbers alone say whether a number is yanked.
 --   what is asked of a card of YANK$$$     NamesLower
 --   the theorems                           SettledSolves, SolvesUnique
 use Prim.Native.Nat.{ℕ, _≤_, _<_}
@@ -10,7 +10,7 @@ use Rattle.words.specs.Base.{any, member}
 use Rattle.library.specs.Each.{Each}
 use Rattle.library.specs.Yanks.{Yank, covers, Solves, settled}
 
--- "names only sets .. with lower numbers than its owner": whatever it acts on is one of 1 to top, and lower than every number in its history
+-- whatever it acts on is one of 1 to top, and lower than every number in its history
 abbrev pub NamesLower : ℕ → Yank → Type 0
 NamesLower top y = (n : ℕ) → T (any (covers 0 n) (y .acts)) → (0 < n) × (n ≤ top) × Each (λ b. n < b .number) (y .bytes)
 

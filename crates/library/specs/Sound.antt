@@ -1,7 +1,7 @@
--- What makes a library sound (01, "The libraries we read and write", "When a card is active"), said of the library and not of its words.
+-- MEANING. What makes a library sound (RULES, "Text", "Directory", "Deck list", "Cards", "Decks", "Limits"), said of the library and not of its words.
 --   of a list          noTwo
 --   of a line          soundLine
---   of a history       isNamed, neverFalls
+--   of a history       isEntry, neverFalls
 --   of the directory   soundEntry, sameName
 --   of a card          sameCard, SoundCard, BeginsNoDeck
 --   of YANK$$$         namesLowerSets
@@ -17,7 +17,7 @@ use Rattle.words.specs.Base.{any, all, allOf, same}
 use Rattle.words.specs.Display.{inChart}
 use Rattle.words.specs.Text.{trim}
 use Rattle.words.specs.Names.{isNameWord}
-use Rattle.lines.specs.Directive.{directive}
+use Rattle.words_lines.specs.Directive.{directive}
 use Rattle.library.specs.Each.{Each}
 use Rattle.library.specs.Library.{Byte, Card, Deck, Library, notDeck, deckOf, deckLine, history, deckCard, stream, deckNames, reserved, purged, nameAt}
 use Rattle.library.specs.Yanks.{isYank, targets}
@@ -29,21 +29,21 @@ abbrev pub noTwo : {A : Type 0} → (A → A → Bool) → List A → Bool
 noTwo alike [] = true
 noTwo alike (x ∷ xs) = not (any (alike x) xs) && noTwo alike xs
 
--- "Text": 0 to 80 columns of the character set, without trailing blanks
+-- "Text": characters only, at most 80 columns, and no blank at the end
 abbrev pub lineTests : List ℕ → List Bool
 lineTests l = all inChart l ∷ leb (length l) 80 ∷ same (trim l) l ∷ []
 
 abbrev pub soundLine : List ℕ → Bool
 soundLine l = allOf (lineTests l)
 
--- "Cards": a directory number, from 1 to the directory count, of an entry that is not purged
+-- "Cards": the number of an entry, which is not purged
 abbrev pub numberTests : List ℕ → ℕ → List Bool
 numberTests directory n = ltb 0 n ∷ leb n (length directory) ∷ not (eqb (nameAt directory n) purged) ∷ []
 
-abbrev pub isNamed : List ℕ → ℕ → Bool
-isNamed directory n = allOf (numberTests directory n)
+abbrev pub isEntry : List ℕ → ℕ → Bool
+isEntry directory n = allOf (numberTests directory n)
 
--- "Cards": the numbers of a history from n on never fall
+-- "Cards": no number of a history is below n, or below the number ahead of it
 abbrev pub neverFalls : ℕ → List Byte → Bool
 neverFalls n [] = true
 neverFalls n (b ∷ bs) = leb n (b .number) && neverFalls (b .number) bs
@@ -56,7 +56,7 @@ soundEntry w = eqb w purged || (isNameWord w && not (eqb w reserved))
 abbrev pub sameName : ℕ → ℕ → Bool
 sameName v w = eqb v w && not (eqb v purged)
 
--- "Cards": owner and sequence number identify a card
+-- "Cards": two cards with one owner and one sequence number
 abbrev pub sameCard : Card → Card → Bool
 sameCard c d = eqb (c .owner) (d .owner) && eqb (c .seq) (d .seq)
 
@@ -64,18 +64,18 @@ sameCard c d = eqb (c .owner) (d .owner) && eqb (c .seq) (d .seq)
 pub record SoundCard (directory : List ℕ) (c : Card) : Type 0 where
   -- "Text"
   pub line : T (soundLine (c .line))
-  -- "Cards": sequence numbers start at 1, and have 18 bits
+  -- "Cards": the sequence number is not 0, and has 18 bits
   pub numbered : 0 < c .seq
   pub fits : c .seq ≤ 262143
-  -- "Cards": each byte names an entry, the owner's first, and the numbers never fall
-  pub named : T (all (λ b. isNamed directory (b .number)) (history c))
+  -- "Cards": each byte has the number of an entry, and no number is below the one ahead of it
+  pub named : T (all (λ b. isEntry directory (b .number)) (history c))
   pub rises : T (neverFalls (c .owner) (c .later))
 
 -- "Decks": a DECK or COMDECK line, be it malformed, stands on deck cards alone
 abbrev pub BeginsNoDeck : Card → Type 0
 BeginsNoDeck c = deckLine (c .line) ≡ notDeck
 
--- "When a card is active": a card of YANK$$$ is a YANK directive that names only sets, never decks, with lower numbers than its owner
+-- "Decks": a card of YANK$$$ is a well-formed YANK, and each name on it is a set's, with a number below the card's owner
 abbrev pub namesLowerSets : Library → Card → Bool
 namesLowerSets l c =
     isYank (directive (c .line)) && all (okTarget (l .directory) (deckNames l) (c .owner)) (targets (l .directory) (c .line))
@@ -88,7 +88,7 @@ pub record SoundDeck (directory : List ℕ) (d : Deck) : Type 0 where
   pub others : Each BeginsNoDeck (d .cards)
 
 pub record Sound (l : Library) : Type 0 where
-  -- "Numbers of the answers": the limits of rows 1, 3 and 5
+  -- "Limits": those of rows 1, 3 and 5
   pub limits : T (withinLimits l)
   -- "Directory": names and purged entries, no name twice
   pub entries : T (all soundEntry (l .directory))
@@ -100,5 +100,5 @@ pub record Sound (l : Library) : Type 0 where
   -- "Deck list": no deck twice
   pub decks : Each (SoundDeck (l .directory)) (l .decks)
   pub differ : T (noTwo eqb (map (λ d. d .number) (l .decks)))
-  -- "Cards": no two cards share owner and sequence number
+  -- "Cards": no card has both owner and sequence number of another
   pub once : T (noTwo sameCard (stream l))

@@ -1,8 +1,8 @@
--- When a set is yanked and a card is active (01, "When a card is active").
+-- MEANING. When a set is yanked and a card is active (RULES, "When a card is active").
 --   a card's activity          lastSays, active
 --   what a YANK card acts on   Target, covers, isYank, targets
---   the rule                   Yank, yankedBy, Solves
---   its solution               settled, yanked
+--   the rule                   Yank, yanksOf, yankedBy, Solves
+--   its solution               settled, settledYanks, yanked
 use Prim.Native.Nat.{ℕ, zero, suc, _-_}
 use mathlib.Core.Path.{_≡_}
 use mathlib.Core.Bool.{Bool, true, false, _&&_}
@@ -10,14 +10,13 @@ use mathlib.Core.List.{List, [], _∷_, map}
 use lib.Dec.{eqb}
 use lib.ListN.{length}
 use Rattle.words.specs.Base.{if_then_else_, any, member}
-use Rattle.lines.specs.Directive.{directive, yankNames}
-use Rattle.lines.specs.declared.CardName.{CardName}
-use Rattle.lines.specs.declared.Line.{Line}
-use Rattle.lines.specs.declared.Line.the-variants.{Text, Skipped, Deck as DeckLine·, Comdeck, Ident, Insert, Before, Delete, Restore, Yank as YankLine, Outside, Long, Malformed, NotCarried}
+use Rattle.words_lines.specs.Directive.{directive, yankNames}
+use Rattle.words_lines.specs.declared.Line.{Line}
+use Rattle.words_lines.specs.declared.Line.the-variants.{Text, Skipped, Deck as DeckLine·, Comdeck, Ident, Insert, Before, Delete, Restore, Yank as YankLine, Outside, Long, Malformed, NotCarried}
 use Rattle.library.specs.Library.{Byte, Card, Library, history, entryOf}
 
--- "A card is active when its last byte that is not yanked is an activating one; with no such byte it is inactive":
--- what the bytes passed so far say, then each byte that is not yanked
+-- bytes with yanked numbers count for nothing; the last of the others says whether the card is active, and where there are none it is not:
+-- what the bytes so far say, and then what the rest of them make of it
 abbrev pub lastSays : (ℕ → Bool) → Bool → List Byte → Bool
 lastSays yanked so [] = so
 lastSays yanked so (b ∷ bs) = lastSays yanked (if yanked (b .number) then so else (b .activating)) bs
@@ -60,7 +59,7 @@ pub record Yank : Type 0 where
 unfoldable pub yanksOf : Library → List Yank
 yanksOf l = map (λ c. record { acts = targets (l .directory) (c .line); bytes = history c }) (l .yanks)
 
--- THE RULE: "A set is yanked when an active card of YANK$$$ names it", given what is yanked in YANK$$$ itself
+-- THE RULE: a number is yanked where a card of YANK$$$ acts on it and is active, given what is yanked in YANK$$$ itself
 abbrev pub yankedBy : List Yank → (ℕ → Bool) → ℕ → ℕ → Bool
 yankedBy ys inYanks deck n = any (λ y. any (covers deck n) (y .acts) && lastSays inYanks false (y .bytes)) ys
 
@@ -68,7 +67,7 @@ yankedBy ys inYanks deck n = any (λ y. any (covers deck n) (y .acts) && lastSay
 abbrev pub Solves : List Yank → (ℕ → Bool) → Type 0
 Solves ys f = (n : ℕ) → f n ≡ yankedBy ys f 0 n
 
--- "the rule is settled from the highest number down": the yanked ones among the k highest up to top
+-- number by number, from top on downwards: the yanked ones among the k highest, each told by those above it
 abbrev pub settled : List Yank → ℕ → ℕ → List ℕ
 settled ys top zero = []
 settled ys top (suc k) =

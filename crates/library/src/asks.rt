@@ -1,7 +1,7 @@
 // A line as a card of YANK$$$.
 ghost use mathlib.Core.Path.{_≡_};
 ghost use Rattle.library.specs.Yanks.{isYank};
-use lines::Line;
+use words_lines::Line;
 
 // Whether a line is a YANK directive.
 pub fn asks_yank(line: Line) -> bool

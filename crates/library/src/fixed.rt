@@ -12,12 +12,14 @@ const TO_LOWEST: u64 = 0o10000000000000000;
 pub fn header_word() -> u64
     ensures { λ r. ⌜ r ≡ header ⌝ }
 {
-    spelling::word_of_name(b"CHECK") + CHARACTER_SET + spelling::word_of_name(b"Y*") / TO_LOWEST
+    words_names::word_of_name(b"CHECK")
+        + CHARACTER_SET
+        + words_names::word_of_name(b"Y*") / TO_LOWEST
 }
 
 // YANK$$$ as a word.
 pub fn reserved_word() -> u64
     ensures { λ r. ⌜ r ≡ reserved ⌝ }
 {
-    spelling::word_of_name(b"YANK$$$")
+    words_names::word_of_name(b"YANK$$$")
 }

@@ -11,13 +11,13 @@ pub use fixed::header_word;
 pub use fixed::reserved_word;
 pub use limits::within_limits;
 
-// Why an image is no library: 01's rows 1 to 10.
+// Why an image is no library: rows 1 to 10 of the table.
 pub enum Fault {
-    // under 3 words, over 65,536, or a word of 2^60 or more
+    // too few words or too many, or a number that is no word
     Size,
-    // header word 1
+    // the first word
     Header,
-    // the counts of word 2, and the tables
+    // the counts of the second word, and the tables
     Tables,
     // a name in the directory or the deck list
     Name,
@@ -64,7 +64,7 @@ pub enum DeckLine {
     Common(u64),
 }
 
-// 01's number of a fault.
+// The table's number of a fault.
 pub fn fault_number(fault: Fault) -> u64
     ensures { λ r. ⌜ r ≡ faultNumber fault ⌝ }
 {

@@ -1,4 +1,4 @@
-// The limits of a library by its counts (01, rows 1, 3, 5 and 31).
+// The limits of a library by its counts (RULES, "Limits"; rows 1, 3, 5 and 31).
 ghost use mathlib.Core.Path.{_≡_};
 ghost use Rattle.library.specs.Counts.{withinCounts};
 

@@ -1,4 +1,4 @@
--- The head of a card, raised, is the head with its bytes raised, whatever they are: each byte in its place, the unused ones zero, all else as it was.
+-- The head of a card, raised, is the head with its bytes raised, whatever they are.
 use Prim.Native.Nat.{ℕ, suc, _+_, _*_, _/_, _%_, _^_, _≤_, _<_}
 use native.Mathlib.Omega.{arith}
 use mathlib.Core.Path.{_≡_, refl, ap, _∙_}
@@ -7,13 +7,13 @@ use mathlib.Core.List.{List, [], _∷_, _++_, map}
 use lib.ListN.{length}
 use Rattle.library.specs.Image.{bit, furtherWords, headWords}
 use Rattle.library.proofs.FieldsBack.{Raw}
-use Rattle.settling.specs.SettledBits.{furtherLen, cardLen}
-use Rattle.settling.proofs.Histories.{last-len, more-len}
-use Rattle.settling.proofs.Cards.{one-len, many-len}
+use Rattle.library_yanks_bits.specs.SettledBits.{furtherLen, cardLen}
+use Rattle.library_yanks_bits.proofs.Histories.{last-len, more-len}
+use Rattle.library_yanks_bits.proofs.Cards.{one-len, many-len}
 use Rattle.library_raise.specs.Raised.{byteRaised, wordRaised, ownRaised, furtherRaised, cardRaised}
-use Rattle.library_raise.proofs.Raising.{raise-unused}
-use Rattle.library_raise.proofs.Histories.{last-raised, more-raised}
-use Rattle.library_raise.proofs.Cards.{one-raised, many-raised}
+use Rattle.library_raise.proofs.ByteRaised.{raise-unused}
+use Rattle.library_raise.proofs.FurtherRaised.{last-raised, more-raised}
+use Rattle.library_raise.proofs.CardRaised.{one-raised, many-raised}
 
 -- A WORD of three bytes
 abbrev wordOf : Bool → ℕ → ℕ → ℕ → ℕ

@@ -1,4 +1,4 @@
--- Directory numbers raised by n in the history bytes of cards (02, T-11), in words that need not be a library's.
+-- CODE. Directory numbers raised by n in the history bytes of cards (RULES, "The merge"), in words that need not be a library's.
 --   a byte, a word          byteRaised, wordRaised
 --   further history words   furtherRaised
 --   a card                  ownRaised, cardRaised
@@ -8,7 +8,7 @@ use mathlib.Core.List.{List, [], _∷_}
 use lib.Dec.{eqb}
 use lib.ListN.{length}
 use Rattle.words.specs.Base.{if_then_else_}
-use Rattle.settling.specs.SettledBits.{isLast, cardsBy}
+use Rattle.library_yanks_bits.specs.SettledBits.{isLast, cardsBy}
 
 -- a byte with its number, bits 15-00, raised, and bits 17 and 16 as they are; an unused byte is zero and stays. Numbers go round at 2^16
 unfoldable pub byteRaised : ℕ → ℕ → ℕ
@@ -19,7 +19,7 @@ unfoldable pub wordRaised : ℕ → ℕ → ℕ
 wordRaised n x =
     x / 2 ^ 54 * 2 ^ 54 + byteRaised n (x / 2 ^ 36 % 2 ^ 18) * 2 ^ 36 + byteRaised n (x / 2 ^ 18 % 2 ^ 18) * 2 ^ 18 + byteRaised n (x % 2 ^ 18)
 
--- FURTHER HISTORY WORDS: up to the one with bit 59, "set when no more history words follow", or the end; what follows stays
+-- FURTHER HISTORY WORDS: up to and with the last, which has bit 59, or to the end; what follows stays
 unfoldable pub furtherRaised : ℕ → List ℕ → List ℕ
 furtherRaised n [] = []
 furtherRaised n (x ∷ xs) = wordRaised n x ∷ (if isLast x then xs else (furtherRaised n xs))

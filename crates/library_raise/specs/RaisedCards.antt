@@ -1,4 +1,4 @@
--- Cards and decks whose directory numbers are raised by n (02, T-11), and where they still fit.
+-- MEANING. Cards and decks whose directory numbers are raised by n (RULES, "The merge"), and where they still fit.
 --   raised       raiseByte, raiseCard, raiseDeck
 --   what fits    RaisesByte, Raises
 --   the flags    Carries
@@ -21,7 +21,7 @@ raiseCard n c = record { line = c .line; seq = c .seq; owner = n + c .owner; lat
 abbrev pub raiseDeck : ℕ → Deck → Deck
 raiseDeck n d = record { number = n + d .number; common = d .common; line = d .line; cards = map (raiseCard n) (d .cards) }
 
--- WHAT FITS: the fields of 01's layout hold the numbers, the raised ones too
+-- WHAT FITS: the fields of the layout hold the numbers, the raised ones too
 abbrev pub RaisesByte : ℕ → Byte → Type 0
 RaisesByte n b = (0 < b .number) × (n + b .number < 2 ^ 16)
 

@@ -1,9 +1,9 @@
-// Directory numbers raised in the history bytes of cards (02, T-11).
+// Directory numbers raised in the history bytes of cards (RULES, "The merge").
 ghost use mathlib.Core.Path.{_≡_};
 ghost use mathlib.Core.List.{_++_};
 ghost use Prim.Native.Nat.{_+_, _≤_, _<_};
 ghost use lib.ListN.{length, take, drop};
-ghost use Rattle.settling.specs.SettledBits.{furtherLen, cardLen};
+ghost use Rattle.library_yanks_bits.specs.SettledBits.{furtherLen, cardLen};
 ghost use Rattle.library_raise.specs.Raised.{byteRaised, wordRaised, furtherRaised, cardRaised, raisedWords};
 
 // A field of 18 bits: a history byte, the sequence number, the words of text.
@@ -12,7 +12,7 @@ const FIELD: u64 = 262144;
 const UPPER: u64 = 68719476736;
 // Bit 54: above it a further history word has only the mark of the last.
 const ABOVE_BYTES: u64 = 18014398509481984;
-// Bit 59, set when no more history words follow.
+// Bit 59, in the last word of a history.
 const LAST: u64 = 576460752303423488;
 // Directory numbers, bits 15-00 of a byte, end below this.
 const NUMBERS: u64 = 65536;

@@ -1,32 +1,29 @@
--- THE CODE'S. A merged image by the words of the two, and what each part of the code answers.
---   places in an image       Parts, partsOf, Parted
---   the merged words         yanksIn, decksIn, headerOf, tablesOf, cardsOf, mergedWords
---   a common name            sharedEntry, orNone
+-- CODE. A merged image by the words of the two, and what each part of the code answers.
+--   places in an image       placesOf, Laid
+--   the merged words         yanksIn, decksIn, headerOf, tablesOf, mergedCards, mergedWords
 --   words put into a space   putAt, raisedPart
---   the answer               Answers, WithinBoth, MergesSound, MergesApart
+--   the answer               MergeAnswers, WithinBoth, MergesSound, MergesApart
 use Prim.Native.Nat.{ℕ, _+_, _-_, _^_, _≤_, _<_}
 use mathlib.Core.Path.{_≡_}
 use mathlib.Core.Bool.{Bool, true}
 use mathlib.Core.List.{List, [], _∷_, _++_}
-use mathlib.Core.Option.{Option, none, some}
-use lib.Dec.{eqb}
+use mathlib.Core.Option.{none, some}
 use lib.ListN.{length, getD, take, drop}
-use Rattle.words.specs.Base.{if_then_else_}
-use Rattle.library.specs.Library.{Library, purged, entryOf}
+use Rattle.library.specs.Library.{Library}
 use Rattle.library.specs.Image.{withinLimits}
 use Rattle.library.specs.Check.{directoryCount, deckCount, directoryOf, deckWordsOf, cardsPlace, good, check}
 use Rattle.library_raise.specs.Raised.{raisedWords}
-use Rattle.decks.specs.Decks.{deckEnd}
+use Rattle.library_image_decks.specs.Decks.{deckEnd}
 use Rattle.merge_meaning.specs.Merge.{merge, sharedName, Merging, fittedIn, fromShared, merged, mergeInto}
 use Rattle.merge_meaning.specs.declared.Merged.{Merged}
 use Rattle.merge.specs.declared.parts.Parts.{Parts}
 
 -- PLACES: where the deck list, the cards and the first deck card stand
-abbrev pub partsOf : List ℕ → Parts
-partsOf ws = record { names = 2 + directoryCount ws; cards = cardsPlace ws; decks = deckEnd ws (cardsPlace ws) }
+abbrev pub placesOf : List ℕ → Parts
+placesOf ws = record { names = 2 + directoryCount ws; cards = cardsPlace ws; decks = deckEnd ws (cardsPlace ws) }
 
 -- of an image that the check accepted they are inside, one after another
-pub record Parted (ws : List ℕ) (p : Parts) : Type 0 where
+pub record Laid (ws : List ℕ) (p : Parts) : Type 0 where
   pub names : p .names ≡ 2 + directoryCount ws
   pub cards : p .cards ≡ cardsPlace ws
   pub decks : p .decks ≡ deckEnd ws (cardsPlace ws)
@@ -53,21 +50,12 @@ abbrev pub tablesOf : List ℕ → List ℕ → List ℕ
 tablesOf ws vs = headerOf ws vs ++ ((directoryOf ws ++ directoryOf vs) ++ (deckWordsOf ws ++ drop 1 (deckWordsOf vs)))
 
 -- the second's cards with their numbers raised by the first's directory count, and nothing else changed
-abbrev pub cardsOf : List ℕ → List ℕ → List ℕ
-cardsOf ws vs =
+abbrev pub mergedCards : List ℕ → List ℕ → List ℕ
+mergedCards ws vs =
     (yanksIn ws ++ raisedWords (directoryCount ws) (yanksIn vs)) ++ (decksIn ws ++ raisedWords (directoryCount ws) (decksIn vs))
 
 unfoldable pub mergedWords : List ℕ → List ℕ → List ℕ
-mergedWords ws vs = tablesOf ws vs ++ cardsOf ws vs
-
--- A COMMON NAME: the number that an entry's name has in the first directory; 0 where it has none, and for a purged entry
-unfoldable pub sharedEntry : List ℕ → ℕ → ℕ
-sharedEntry directory w = if eqb w purged then 0 else entryOf directory w
-
--- a place, or 0 for none: word 0 of an image is the header's
-abbrev pub orNone : Option ℕ → ℕ
-orNone none = 0
-orNone (some p) = p
+mergedWords ws vs = tablesOf ws vs ++ mergedCards ws vs
 
 -- WORDS PUT INTO A SPACE, from a place on
 abbrev pub putAt : ℕ → List ℕ → List ℕ → List ℕ
@@ -78,7 +66,7 @@ abbrev pub raisedPart : ℕ → ℕ → ℕ → List ℕ → List ℕ
 raisedPart from to n space = take from space ++ (raisedWords n (take (to - from) (drop from space)) ++ drop to space)
 
 -- THE ANSWER and the space: of two libraries that were read; whether they are within the limits; and where they are and no name is common
-pub record Answers (m : Merging) (space new : List ℕ) (r : Merged) : Type 0 where
+pub record MergeAnswers (m : Merging) (space new : List ℕ) (r : Merged) : Type 0 where
   pub answer : r ≡ merged m
   pub written : new ≡ mergeInto m space
 
@@ -87,8 +75,8 @@ WithinBoth ws vs r = (l m : Library) → check ws ≡ good l → check vs ≡ go
 
 abbrev pub MergesSound : List ℕ → List ℕ → List ℕ → List ℕ → Merged → Type 0
 MergesSound ws vs space new r = (l m : Library) → check ws ≡ good l → check vs ≡ good m
-    → Answers (fromShared (length space) l m (sharedName l m)) space new r
+    → MergeAnswers (fromShared (length space) l m (sharedName l m)) space new r
 
 abbrev pub MergesApart : List ℕ → List ℕ → List ℕ → List ℕ → Merged → Type 0
 MergesApart ws vs space new r = (l m : Library) → check ws ≡ good l → check vs ≡ good m → sharedName l m ≡ none → withinLimits (merge l m) ≡ true
-    → Answers (fittedIn (length space) (merge l m)) space new r
+    → MergeAnswers (fittedIn (length space) (merge l m)) space new r

@@ -2,7 +2,7 @@
 ghost use mathlib.Core.Path.{_≡_};
 ghost use Prim.Native.Nat.{_≤_};
 ghost use lib.ListN.{length};
-ghost use Rattle.image.specs.Places.{placesIn};
+ghost use Rattle.library_image.specs.Places.{placesIn};
 
 // How many stand from a place on; each has a word at least.
 pub(crate) fn count_cards(image: &[u64], from: usize) -> usize
@@ -11,7 +11,7 @@ pub(crate) fn count_cards(image: &[u64], from: usize) -> usize
     let mut at = from;
     let mut n: usize = 0;
     while at < image.len() {
-        let c = image::see(image, at);
+        let c = library_image::see(image, at);
         at = c.next;
         n += 1;
     }

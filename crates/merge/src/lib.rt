@@ -1,7 +1,6 @@
-// Two libraries made one: each part of the second follows that part of the first, and the numbers in its history bytes rise by the first's directory count (02, T-11). Both are
+// Two libraries made one: each part of the second follows that part of the first, and the numbers in its history bytes rise by the first's directory count (RULES, "The merge"). Both are
 // checked; then a name that both have, the limits and the room are looked at; then the words are put, and the second's numbers raised where they stand.
 mod counted;
-mod names;
 mod parts;
 mod put;
 
@@ -13,19 +12,19 @@ ghost use mathlib.Core.Path.{_≡_};
 ghost use lib.ListN.{length};
 ghost use Rattle.library.specs.Readable.{Readable};
 ghost use Rattle.merge_meaning.specs.Merge.{merging, merged, mergeInto};
-ghost use Rattle.merge.specs.Words.{Parted, WithinBoth, MergesSound, MergesApart};
+ghost use Rattle.merge.specs.Words.{Laid, WithinBoth, MergesSound, MergesApart};
 use crate::counted::count_cards;
-use crate::names::shared_name;
 use crate::parts::Parts;
 use crate::parts::parts_of;
 use crate::put::TWICE;
 use crate::put::put_merged;
 use library::Checked;
-use tables::DIRECTORY;
+use library_tables::DIRECTORY;
+use merge_names::shared_name;
 
 // Whether the two together pass no limit.
 fn within_both(first: &[u64], a: Parts, second: &[u64], b: Parts) -> bool
-    requires { ⌜ Parted (now first) a × Parted (now second) b ⌝ }
+    requires { ⌜ Laid (now first) a × Laid (now second) b ⌝ }
     ensures { λ r. ⌜ WithinBoth (now (first .entry)) (now (second .entry)) r ⌝ }
 {
     let words = first.len() + second.len() - TWICE;
@@ -37,7 +36,7 @@ fn within_both(first: &[u64], a: Parts, second: &[u64], b: Parts) -> bool
 
 // Where no name is common and no limit is passed.
 fn merge_apart(first: &[u64], a: Parts, second: &[u64], b: Parts, space: &mut [u64]) -> Merged
-    requires { ⌜ Parted (now first) a × Parted (now second) b ⌝ }
+    requires { ⌜ Laid (now first) a × Laid (now second) b ⌝ }
     ensures { λ r. ⌜ MergesApart (now (first .entry)) (now (second .entry)) (now (space .entry)) (now (space .exit)) r ⌝ }
 {
     let words = first.len() + second.len() - TWICE;
@@ -73,9 +72,9 @@ pub fn merge(first: &[u64], second: &[u64], space: &mut [u64]) -> Merged
     ensures answer { λ r. ⌜ r ≡ merged (merging (now (first .entry)) (now (second .entry)) (length (now (space .entry)))) ⌝ }
     ensures space { λ _. ⌜ now (space .exit) ≡ mergeInto (merging (now (first .entry)) (now (second .entry)) (length (now (space .entry)))) (now (space .entry)) ⌝ }
 {
-    match checks::check(first) {
+    match library_check::check(first) {
         Checked::Refused(fault, place) => Merged::First(fault, place),
-        Checked::Sound => match checks::check(second) {
+        Checked::Sound => match library_check::check(second) {
             Checked::Refused(fault, place) => Merged::Second(fault, place),
             Checked::Sound => merge_sound(first, second, space),
         },

@@ -1,6 +1,6 @@
 // Where the parts of an image stand.
 ghost use mathlib.Core.Path.{_≡_};
-ghost use Rattle.merge.specs.Words.{partsOf};
+ghost use Rattle.merge.specs.Words.{placesOf};
 
 // The places of the deck list, of the cards, and of the first deck card: the cards of YANK$$$ are ahead of it.
 pub(crate) struct Parts {
@@ -10,12 +10,12 @@ pub(crate) struct Parts {
 }
 
 pub(crate) fn parts_of(image: &[u64]) -> Parts
-    ensures { λ r. ⌜ r ≡ partsOf (now (image .entry)) ⌝ }
+    ensures { λ r. ⌜ r ≡ placesOf (now (image .entry)) ⌝ }
 {
-    let cards = decks::cards_place(image);
+    let cards = library_image_decks::cards_place(image);
     Parts {
-        names: tables::DIRECTORY + tables::entries_of(image),
+        names: library_tables::DIRECTORY + library_tables::entries_of(image),
         cards: cards,
-        decks: decks::deck_end(image, cards),
+        decks: library_image_decks::deck_end(image, cards),
     }
 }

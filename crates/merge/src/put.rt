@@ -4,9 +4,9 @@ ghost use mathlib.Core.List.{_++_};
 ghost use Prim.Native.Nat.{_+_, _^_, _≤_, _<_};
 ghost use lib.ListN.{length, getD, drop};
 ghost use Rattle.library_raise.specs.Raised.{raisedWords};
-ghost use Rattle.merge.specs.Words.{Parted, headerOf, tablesOf, cardsOf, mergedWords, putAt, raisedPart};
+ghost use Rattle.merge.specs.Words.{Laid, headerOf, tablesOf, mergedCards, mergedWords, putAt, raisedPart};
 use crate::parts::Parts;
-use tables::DIRECTORY;
+use library_tables::DIRECTORY;
 
 // of the header, the word of the counts
 const COUNTS: usize = 1;
@@ -18,7 +18,7 @@ fn put_at(space: &mut [u64], at: usize, words: &[u64])
     requires { ⌜ at + length (now words) ≤ length (now space) ⌝ }
     ensures { λ _. ⌜ now (space .exit) ≡ putAt at (now (words .entry)) (now (space .entry)) ⌝ }
 {
-    store::copy(&mut space[at..], words);
+    library_store::copy(&mut space[at..], words);
 }
 
 // A part of the first and that of the second.
@@ -59,7 +59,7 @@ fn put_counts(first: &[u64], second: &[u64], space: &mut [u64])
 
 // Header and counts, both directories, both deck lists.
 fn put_tables(first: &[u64], a: Parts, second: &[u64], b: Parts, space: &mut [u64])
-    requires { ⌜ Parted (now first) a × (Parted (now second) b × (a .cards + b .cards ≤ length (now space) + 3)) ⌝ }
+    requires { ⌜ Laid (now first) a × (Laid (now second) b × (a .cards + b .cards ≤ length (now space) + 3)) ⌝ }
     ensures { λ _. ⌜ now (space .exit) ≡ tablesOf (now (first .entry)) (now (second .entry)) ++ drop (length (tablesOf (now (first .entry)) (now (second .entry)))) (now (space .entry)) ⌝ }
 {
     let names = a.names;
@@ -85,8 +85,8 @@ fn put_tables(first: &[u64], a: Parts, second: &[u64], b: Parts, space: &mut [u6
 
 // The cards of YANK$$$ of both, then the decks of both.
 fn put_cards(first: &[u64], a: Parts, second: &[u64], b: Parts, space: &mut [u64])
-    requires { ⌜ Parted (now first) a × (Parted (now second) b × (length (now first) + length (now second) ≤ length (now space) + 3)) ⌝ }
-    ensures { λ _. ⌜ now (space .exit) ≡ putAt (length (tablesOf (now (first .entry)) (now (second .entry)))) (cardsOf (now (first .entry)) (now (second .entry))) (now (space .entry)) ⌝ }
+    requires { ⌜ Laid (now first) a × (Laid (now second) b × (length (now first) + length (now second) ≤ length (now space) + 3)) ⌝ }
+    ensures { λ _. ⌜ now (space .exit) ≡ putAt (length (tablesOf (now (first .entry)) (now (second .entry)))) (mergedCards (now (first .entry)) (now (second .entry))) (now (space .entry)) ⌝ }
 {
     let n = (a.names - DIRECTORY) as u64;
     let yanks = a.cards;
@@ -110,7 +110,7 @@ fn put_cards(first: &[u64], a: Parts, second: &[u64], b: Parts, space: &mut [u64
 }
 
 pub(crate) fn put_merged(first: &[u64], a: Parts, second: &[u64], b: Parts, space: &mut [u64])
-    requires { ⌜ Parted (now first) a × (Parted (now second) b × (length (now first) + length (now second) ≤ length (now space) + 3)) ⌝ }
+    requires { ⌜ Laid (now first) a × (Laid (now second) b × (length (now first) + length (now second) ≤ length (now space) + 3)) ⌝ }
     ensures { λ _. ⌜ now (space .exit) ≡ mergedWords (now (first .entry)) (now (second .entry)) ++ drop (length (mergedWords (now (first .entry)) (now (second .entry)))) (now (space .entry)) ⌝ }
 {
     put_tables(first, a, second, b, space);

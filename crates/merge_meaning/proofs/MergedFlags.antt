@@ -1,36 +1,36 @@
--- What is yanked in a merged library: the first's numbers as in the first, the second's raised as in the second. The flags are written down, and they solve
+-- In a merged library the first's numbers are yanked as in the first, the second's raised as in the second. The flags are written down, and they solve
 -- the rule. It goes over whatever a card of YANK$$$ acts on (Target, covers; Raised).
-use Prim.Native.Nat.{ℕ, zero, suc, _+_, _-_, _≤_, _<_}
+use Prim.Native.Nat.{ℕ, _+_, _-_, _≤_, _<_}
 use native.Mathlib.Omega.{arith}
 use native.Mathlib.Decide.{decLe}
 use mathlib.Core.Path.{_≡_, refl, sym, ap, ap₂, _∙_, subst}
-use mathlib.Core.Bool.{Bool, true, false, _&&_, _||_}
+use mathlib.Core.Bool.{Bool, false, _&&_, _||_}
 use mathlib.Core.List.{List, [], _∷_, _++_, map}
 use mathlib.Core.Option.{none}
 use lib.Dec.{T}
 use lib.ListN.{length}
-use Rattle.words.specs.Base.{if_then_else_, any, all}
-use Rattle.lines.specs.Directive.{directive}
+use Rattle.words.proofs.TestParts.{or-false}
+use Rattle.words.specs.Base.{any, all}
+use Rattle.words_lines.specs.Directive.{directive}
 use Rattle.library.specs.Each.{Each}
-use Rattle.library.specs.Library.{Byte, Card, Library, history, deckNames}
-use Rattle.library.specs.Yanks.{lastSays, active, Target, covers, isYank, targets, Yank, yankedBy, Solves, yanked}
+use Rattle.library.specs.Library.{Card, Library, history, deckNames}
+use Rattle.library.specs.Yanks.{lastSays, covers, isYank, targets, Yank, yankedBy, Solves, yanked}
 use Rattle.library.specs.Growth.{NewCard}
 use Rattle.library.specs.Image.{withinLimits}
 use Rattle.library.specs.Check.{okTarget}
-use Rattle.library.specs.Sound.{namesLowerSets, SoundCard, Sound}
-use Rattle.library.proofs.Each.{each-map, each-two, and-parts, all-each}
-use Rattle.library.proofs.Appends.{any-append, map-append}
-use Rattle.library.proofs.Anys.{or-false}
-use Rattle.library.proofs.Settle.{says-agree}
+use Rattle.library.specs.Sound.{SoundCard, Sound}
+use Rattle.library.proofs.EachTest.{each-map, and-parts, all-each}
+use Rattle.library.proofs.AppendedLists.{any-append, map-append}
+use Rattle.library.proofs.OneSolution.{says-agree}
 use Rattle.library.proofs.Rollback.{yankOf}
-use Rattle.library.proofs.Acts.{card-numbers, sound-stable}
-use Rattle.library.proofs.Flags.{yankList, flags, yanked-rule, flags-solve, flags-only}
-use Rattle.library_raise.specs.RaisedCards.{raiseByte, raiseCard}
-use Rattle.library_raise.proofs.RaisedCards.{says-raised}
+use Rattle.library.proofs.YankTargets.{card-numbers, sound-stable}
+use Rattle.library.proofs.SettledFlags.{yankList, flags, yanked-rule, flags-solve, flags-only}
+use Rattle.library_raise.specs.RaisedCards.{raiseCard}
+use Rattle.library_raise.proofs.RaisedCardWords.{says-raised}
 use Rattle.merge_meaning.specs.Merge.{merge, sharedName}
 use Rattle.merge_meaning.specs.Merged.{Mergeable, raiseDeckNumber, YankedFirst, YankedSecond}
-use Rattle.merge_meaning.proofs.Raised.{any-raise, raise-low, none-covers, first-high, targets-raise}
-use Rattle.merge_meaning.proofs.Soundness.{apart, sound-both}
+use Rattle.merge_meaning.proofs.RaisedStaysSound.{any-raise, raise-low, none-covers, first-high, targets-raise}
+use Rattle.merge_meaning.proofs.MergedSound.{apart, sound-both}
 
 -- HISTORIES: every number of a sound card is positive, and at most the directory's count
 pub positive : (directory : List ℕ) (c : Card) → SoundCard directory c → Each (λ b. 0 < b .number) (history c)

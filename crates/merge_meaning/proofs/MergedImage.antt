@@ -1,29 +1,29 @@
--- M2: the image of a merged library, stretch by stretch: the words of the first as they were, those of the second with their numbers raised.
+-- M2: a merged image has the words of the first as they were, and those of the second with numbers raised.
 --   active-agree, cards-agree, decks-agree    the first's cards, under flags that agree on their numbers
 --   raised-number                             a deck's number
 --   image-merged                              the image
-use Prim.Native.Nat.{ℕ, zero, suc, _+_, _-_, _*_, _^_, _≤_, _<_}
+use Prim.Native.Nat.{ℕ, zero, suc, _+_, _-_, _≤_, _<_}
 use native.Mathlib.Omega.{arith}
-use mathlib.Core.Path.{_≡_, refl, sym, ap, ap₂, _∙_, subst}
-use mathlib.Core.Bool.{Bool, true, false}
+use mathlib.Core.Path.{_≡_, refl, sym, ap, ap₂, _∙_}
+use mathlib.Core.Bool.{Bool, false}
 use mathlib.Core.List.{List, [], _∷_, _++_, map, append-assoc}
 use lib.ListN.{length, drop, length-append, length-map}
 use Rattle.words.specs.Text.{textWords}
 use Rattle.library.specs.Each.{Each}
-use Rattle.library.specs.Library.{Byte, Card, Deck, Library, history, deckCard, deckCards, deckNames}
+use Rattle.library.specs.Library.{Byte, Card, Deck, Library, history, deckCards, deckNames}
 use Rattle.library.specs.Yanks.{active, yanked}
 use Rattle.library.specs.Image.{bit, byteBits, headWords, cardWords, cardsWords, decksWords, header, counts, tables, encode}
-use Rattle.library.specs.Sound.{SoundCard, SoundDeck, Sound}
-use Rattle.library.proofs.Each.{each-map}
-use Rattle.library.proofs.Settle.{says-agree}
-use Rattle.library.proofs.Sizes.{cards-append, Small, within-small}
+use Rattle.library.specs.Sound.{SoundCard, SoundDeck}
+use Rattle.library.proofs.EachTest.{each-map}
+use Rattle.library.proofs.OneSolution.{says-agree}
+use Rattle.library.proofs.LimitsByCount.{cards-append, Small, within-small}
 use Rattle.library_raise.specs.Raised.{raisedWords}
 use Rattle.library_raise.specs.RaisedCards.{raiseCard, raiseDeck, Carries}
-use Rattle.library_raise.proofs.RaisedCards.{cards-raised, decks-raised}
+use Rattle.library_raise.proofs.RaisedCardWords.{cards-raised, decks-raised}
 use Rattle.library_raise.proofs.SoundRaises.{cards-raise, decks-raise}
 use Rattle.merge_meaning.specs.Merge.{merge}
 use Rattle.merge_meaning.specs.Merged.{Mergeable, raiseDeckNumber, MergedImage}
-use Rattle.merge_meaning.proofs.Soundness.{deck-names-merge}
+use Rattle.merge_meaning.proofs.MergedSound.{deck-names-merge}
 use Rattle.merge_meaning.proofs.MergedFlags.{counted, yanked-first, yanked-raised}
 
 -- A CARD under flags that agree on its numbers

@@ -1,17 +1,17 @@
--- MEANING. Two libraries made one (02, T-11).
+-- MEANING. Two libraries made one (RULES, "The merge").
 --   the merge        merge
---   a common name    isShared, sharedName
---   over images      Merging, fittedIn, fromShared, fromChecked, merging
+--   a common name    sharedName
+--   over images      Merging, fittedIn, fromShared, mergeChecked, merging
 --   the answer       merged, mergedNumber, mergedValue, mergedWhich, mergeInto
 -- What is raised and by how much: raiseByte, raiseCard, raiseDeck (library_raise/specs/RaisedCards.antt).
 use Prim.Native.Nat.{ℕ}
-use mathlib.Core.Bool.{Bool, _&&_, not}
+use mathlib.Core.Bool.{not}
 use mathlib.Core.List.{List, _++_, map}
 use mathlib.Core.Option.{Option, none, some}
-use lib.Dec.{eqb, ltb}
+use lib.Dec.{ltb}
 use lib.ListN.{length, drop}
-use Rattle.words.specs.Base.{if_then_else_, member, placeFrom}
-use Rattle.library.specs.Library.{Library, purged}
+use Rattle.words.specs.Base.{if_then_else_, placeFrom}
+use Rattle.library.specs.Library.{Library, hasName}
 use Rattle.library.specs.Image.{encode, withinLimits}
 use Rattle.library.specs.Check.{Checking, good, bad, check, faultNumber}
 use Rattle.library.specs.declared.Fault.{Fault}
@@ -29,12 +29,9 @@ merge l m =
       decks = l .decks ++ map (raiseDeck k) (m .decks);
     }
 
--- A COMMON NAME: a purged entry is none. Where the second has its first one: the directory starts at word 2 of an image
-abbrev pub isShared : List ℕ → ℕ → Bool
-isShared directory w = member w directory && not (eqb w purged)
-
+-- A COMMON NAME: where the second has its first one, a purged entry being none. The directory starts at word 2 of an image
 abbrev pub sharedName : Library → Library → Option ℕ
-sharedName l m = placeFrom (isShared (l .directory)) 2 (m .directory)
+sharedName l m = placeFrom (hasName (l .directory)) 2 (m .directory)
 
 -- OVER IMAGES: the first's rows, the second's, 37, 31, 32; room is how many words the lent space has
 pub data Merging : Type 0 where
@@ -50,13 +47,13 @@ abbrev pub fromShared : ℕ → Library → Library → Option ℕ → Merging
 fromShared room l m (some p) = sharedAt p
 fromShared room l m none = fittedIn room (merge l m)
 
-abbrev pub fromChecked : ℕ → Checking → Checking → Merging
-fromChecked room (bad f p) b = badFirst f p
-fromChecked room (good l) (bad f p) = badSecond f p
-fromChecked room (good l) (good m) = fromShared room l m (sharedName l m)
+abbrev pub mergeChecked : ℕ → Checking → Checking → Merging
+mergeChecked room (bad f p) b = badFirst f p
+mergeChecked room (good l) (bad f p) = badSecond f p
+mergeChecked room (good l) (good m) = fromShared room l m (sharedName l m)
 
 unfoldable pub merging : List ℕ → List ℕ → ℕ → Merging
-merging first second room = fromChecked room (check first) (check second)
+merging first second room = mergeChecked room (check first) (check second)
 
 -- THE ANSWER, and what the lent space then holds
 abbrev pub merged : Merging → Merged

@@ -1,4 +1,4 @@
--- MEANING. What is promised of a merge (02, T-11).
+-- PROMISE. What is promised of a merge (RULES, "The merge").
 --   what is asked                           Mergeable
 --   M1, the merged library is sound         MergeSound, MergedPasses
 --   its limits are those of the sums        MergeLength, MergeLimits
@@ -6,7 +6,7 @@
 --   and the image, word for word            yankWords, deckWords, MergedImage
 --   M4, the fresh library on either side    MergeFresh, MergingFresh
 -- M3 and M5 speak of compile files and runs, and stand in demands.
-use Prim.Native.Nat.{ℕ, zero, suc, _+_, _-_, _≤_, _<_}
+use Prim.Native.Nat.{ℕ, zero, suc, _+_, _-_, _≤_}
 use mathlib.Core.Path.{_≡_}
 use mathlib.Core.List.{List, _∷_, _++_}
 use mathlib.Core.Option.{none}

@@ -1,4 +1,4 @@
-// The merge of two libraries, without its code: what it answers, and the numbers of that (02, T-11).
+// The merge of two libraries, without its code: what it answers, and the numbers of that (RULES, "The merge").
 ghost use mathlib.Core.Path.{_≡_};
 ghost use Rattle.merge_meaning.specs.Merge.{mergedNumber, mergedValue, mergedWhich};
 use library::Fault;

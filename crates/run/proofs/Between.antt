@@ -1,4 +1,4 @@
--- A range between two cards: with the gap directly ahead of the first, the cards up to the last are marked.
+-- With the gap directly ahead of a range's first card, the cards up to its last are marked.
 use Prim.Native.Nat.{ℕ, _+_, _-_, _≤_, _<_}
 use native.Mathlib.Omega.{arith}
 use mathlib.Core.Path.{_≡_, _∙_}

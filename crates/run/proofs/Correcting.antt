@@ -1,49 +1,48 @@
--- INSERT and BEFORE: the card is found in the stream where the definitions find it in its part, and the gap stands at the flat place of the text.
+-- INSERT and BEFORE: the card is found in the stream where the definitions find it in its part.
 use Prim.Native.Nat.{ℕ, zero, suc, _+_, _-_, _≤_, _<_}
 use native.Mathlib.Omega.{arith}
-use native.Mathlib.Numerals.{add-one}
 use mathlib.Core.Path.{_≡_, refl, sym, ap, ap₂, _∙_, subst}
 use mathlib.Core.Bool.{Bool, true, false, _&&_, _||_, not}
 use mathlib.Core.List.{List, [], _∷_, _++_, map}
 use mathlib.Core.Option.{Option, none, some}
-use lib.Dec.{T, eqb, ltb}
+use lib.Dec.{T, eqb}
 use lib.ListN.{length, getD, take, drop, take-append-drop}
 use lib.Seq.{length-take-le}
-use Rattle.words.specs.Base.{if_then_else_, member}
-use Rattle.lines.specs.Directive.{directive}
-use Rattle.lines.specs.declared.CardName.{CardName}
-use Rattle.lines.specs.declared.Line.the-variants.{Insert, Before}
-use Rattle.library.specs.Library.{Card, Deck, Library, deckCards, parts, stream, joined, entryOf}
+use Rattle.words.proofs.TestParts.{and-false}
+use Rattle.words.specs.Base.{if_then_else_}
+use Rattle.words_lines.specs.Directive.{directive}
+use Rattle.words_lines.specs.declared.CardName.{CardName}
+use Rattle.words_lines.specs.declared.Line.the-variants.{Insert, Before}
+use Rattle.library.specs.Library.{Card, Deck, Library, deckCards, parts, stream, entryOf}
 use Rattle.library.specs.Yanks.{yanked}
 use Rattle.library.specs.Sound.{noTwo, sameCard}
-use Rattle.corrections.specs.Step.{TextPlace, inYanks, inDeck, State, Step, went, refused, refuse, isSet, inSet, withPlace, Spot, isNamed, find, isYankPart, isDeckSpot, placeAfter, insertAfter, insertBefore, obey, step}
-use Rattle.corrections.specs.Safe.{Safe}
-use Rattle.corrections.specs.Flat.{indexBy, ahead, Stood, flat, FoundAs, HasPlace, flatPlace, deckNumbers}
+use Rattle.run_meaning.specs.Step.{TextPlace, inYanks, inDeck, State, Step, went, refused, refuse, withPlace, Spot, isCardOf, find, isYankPart, isDeckSpot, placeAfter, insertAfter, insertBefore, obey, step}
+use Rattle.run_meaning.specs.Safe.{Safe}
+use Rattle.run_meaning.specs.Flat.{indexBy, ahead, Stood, flat, FoundAs, HasPlace, flatPlace}
 use Rattle.run.specs.GapWords.{Ordered}
 use Rattle.run.specs.CardSeek.{indexOf}
-use Rattle.settling.specs.SettledBits.{flagged}
-use Rattle.run.specs.Work.{Work, Stands, Located, Locates, OpensAfter, OpensAhead}
-use Rattle.run.specs.Desk.{Sane, SaneAfter, movedDesk, TextGoes, Tables, Held, Answered}
+use Rattle.library_yanks_bits.specs.SettledBits.{flagged}
+use Rattle.run.specs.Work.{Work, Located, Locates, OpensAfter, OpensAhead}
+use Rattle.run.specs.Desk.{Sane, movedDesk, TextGoes, Held, Answered}
 use Rattle.run.specs.Corrected.{titled, SoughtAt, SoughtAs, SeeksCard, InsertSteps, BeforeSteps}
 use Rattle.run.specs.declared.gap.Gap.{Gap}
 use Rattle.run.specs.declared.seek.Place.{Place}
 use Rattle.run.specs.declared.desk.Desk.{Desk}
 use Rattle.run.specs.declared.desk.TextAt.the-variants.{Gap as TextGap}
-use Rattle.run.specs.declared.desk.Stepped.{Stepped}
 use Rattle.run.specs.declared.desk.Stepped.the-variants.{Went as SteppedOn, Refused as SteppedOff}
 use Rattle.run.specs.declared.fixes.Sought.{Sought}
-use Rattle.corrections.specs.declared.Why.{Why}
-use Rattle.corrections.specs.declared.Why.the-variants.{Nowhere, NoCard, Barred}
-use Rattle.corrections.proofs.Went.{Went}
-use Rattle.corrections.proofs.StepSound.{step-safe}
-use Rattle.corrections.proofs.FlatFind.{ownOf, find-unknown, find-flat, stood-below, yank-part-flat, ltb-yes, ltb-no, eqb-yes, eqb-no}
-use Rattle.corrections.proofs.FlatDecks.{deck-spot-named}
+use Rattle.run_meaning.specs.declared.Why.{Why}
+use Rattle.run_meaning.specs.declared.Why.the-variants.{Nowhere, NoCard, Barred}
+use Rattle.run_meaning.proofs.HoldsThrough.{Went}
+use Rattle.run_meaning.proofs.StepSound.{step-safe}
+use Rattle.run_meaning.proofs.FlatFind.{ownOf, find-unknown, find-flat, stood-below, yank-part-flat, ltb-yes, ltb-no, eqb-yes, eqb-no}
+use Rattle.run_meaning.proofs.FlatDecks.{deck-spot-named}
 
 -- THE SEARCH
-index-same : (o s : ℕ) (cs : List Card) → indexOf o s cs ≡ indexBy (isNamed o s) cs
+index-same : (o s : ℕ) (cs : List Card) → indexOf o s cs ≡ indexBy (isCardOf o s) cs
 unfolding indexOf
 index-same o s [] = refl
-index-same o s (c ∷ cs) = ap (λ (n : ℕ). if isNamed o s c then 0 else suc n) (index-same o s cs)
+index-same o s (c ∷ cs) = ap (λ (n : ℕ). if isCardOf o s c then 0 else suc n) (index-same o s cs)
 
 pub seek-unknown : (w dir : List ℕ) (d : Desk) (r : CardName) (at : ℕ) → entryOf (take (d .entries) dir) (r .name) ≡ 0 → SeeksCard w dir d r (record { own = 0; at = at; index = d .cards })
 seek-unknown w dir d r at e names decks flags s held =
@@ -65,13 +64,13 @@ seek-known w dir d r own p e pos locates names decks flags s held = go (find l r
         locates (yanked l 0) (held .below) (held .above) (held .work) (held .low)
         (subst (λ (cs : List Card). T (noTwo sameCard cs)) (sym (held .whole)) (held .safe .sound .once))
 
-    index : p .index ≡ indexBy (isNamed own (r .seq)) (stream l)
-    index = located .index ∙ index-same own (r .seq) (held .below ++ held .above) ∙ ap (indexBy (isNamed own (r .seq))) (held .whole)
+    index : p .index ≡ indexBy (isCardOf own (r .seq)) (stream l)
+    index = located .index ∙ index-same own (r .seq) (held .below ++ held .above) ∙ ap (indexBy (isCardOf own (r .seq))) (held .whole)
 
-    named : indexBy (isNamed own (r .seq)) (stream l) ≡ indexBy (isNamed (ownOf l r) (r .seq)) (stream l)
-    named = ap (λ (o : ℕ). indexBy (isNamed o (r .seq)) (stream l)) known
+    named : indexBy (isCardOf own (r .seq)) (stream l) ≡ indexBy (isCardOf (ownOf l r) (r .seq)) (stream l)
+    named = ap (λ (o : ℕ). indexBy (isCardOf o (r .seq)) (stream l)) known
 
-    go : (o : Option Spot) → FoundAs l (indexBy (isNamed (ownOf l r) (r .seq)) (stream l)) o
+    go : (o : Option Spot) → FoundAs l (indexBy (isCardOf (ownOf l r) (r .seq)) (stream l)) o
         → SoughtAs l (d .gap) (held .below) (held .above) r (record { own = own; at = p .at; index = p .index }) o
     go none h = index ∙ named ∙ h
     go (some a) h = record { stood = h .0; index = h .1 ∙ sym (index ∙ named); stands = located .stands; own = known; first = index }
@@ -287,10 +286,6 @@ title-other decks own seq ne = ap (λ (b : Bool). b && flagged decks own) (eqb-n
 pub title-clear : (decks : List ℕ) (own seq : ℕ) → getD decks own 0 ≡ 0 → titled decks own seq ≡ false
 unfolding flagged
 title-clear decks own seq e = ap (λ (b : Bool). eqb seq 1 && not b) (eqb-yes (getD decks own 0) 0 e) ∙ and-false (eqb seq 1)
-  where
-    and-false : (b : Bool) → (b && false) ≡ false
-    and-false true = refl
-    and-false false = refl
 
 pub title-set : (decks : List ℕ) (own seq : ℕ) → seq ≡ 1 → (getD decks own 0 ≡ 0 → ⊥) → titled decks own seq ≡ true
 unfolding flagged

@@ -1,44 +1,43 @@
--- A deck unit begins: its deck card stands at the stream's end, its name at the end of the directory and of the deck list, and its number is flagged.
-use Prim.Native.Nat.{ℕ, zero, suc, _+_, _-_, _≤_, _<_}
+-- A deck unit begins: its deck card stands at the stream's end, its name at the end of both tables.
+use Prim.Native.Nat.{ℕ, suc, _+_, _-_, _≤_, _<_}
 use native.Mathlib.Omega.{arith}
 use native.Mathlib.Numerals.{add-one}
 use mathlib.Core.Path.{_≡_, refl, sym, ap, ap₂, _∙_, subst}
 use mathlib.Core.Bool.{Bool, true, false, _||_, not}
-use mathlib.Core.List.{List, [], _∷_, _++_, map, append-assoc, append-nil}
+use mathlib.Core.List.{List, [], _∷_, _++_, map, append-nil}
 use lib.Dec.{T, eqb, eqb→eq}
 use lib.ListN.{length, getD, take, drop, set, length-append, length-drop, drop-of-length-le}
 use lib.Seq.{take-suc-set, take-all, getD-set-same, getD-set-other}
-use Rattle.words.specs.Base.{if_then_else_, any, all, member}
+use Rattle.words.specs.Base.{all, member}
 use Rattle.words.specs.Text.{trim}
-use Rattle.words.proofs.Tests.{all-append}
-use Rattle.lines.specs.Directive.{directive, lineNumber}
-use Rattle.lines.proofs.Asked.{Readable, line-readable}
-use Rattle.library.specs.Library.{Card, Deck, Library, deckCard, deckCards, joined, parts, stream, nameAt, deckNames, reserved, entryOf}
+use Rattle.words.proofs.TestParts.{all-append, or-false, or-true}
+use Rattle.words_lines.specs.Directive.{directive, lineNumber}
+use Rattle.words_lines.proofs.AskedLine.{Readable, line-readable}
+use Rattle.library.specs.Library.{Card, Deck, Library, deckCard, deckCards, joined, stream, nameAt, deckNames, reserved}
 use Rattle.library.specs.Yanks.{yanked}
 use Rattle.library.specs.Image.{cardsWords, shortHistory}
 use Rattle.library.specs.Sound.{Sound}
-use Rattle.library.proofs.Appends.{any-append, map-append}
-use Rattle.library.proofs.Directories.{deck-names-append, name-end}
-use Rattle.library.proofs.Sizes.{words, words-under, within-small, cards-append}
-use Rattle.library.proofs.Anys.{bool-iff}
-use Rattle.corrections.specs.Step.{inDeck, State, Step, refused, refuse, limited, isKnown, newDeck, withDecks, withEntry, afterDeck, putDeck, obey, step}
-use Rattle.corrections.specs.Safe.{Safe}
-use Rattle.corrections.specs.Flat.{ahead, HasPlace, flatPlace, deckNumbers}
+use Rattle.library.proofs.AppendedLists.{any-append, map-append}
+use Rattle.library.proofs.NameAtEnd.{deck-names-append, name-end}
+use Rattle.library.proofs.LimitsByCount.{words, words-under, within-small, cards-append}
+use Rattle.run_meaning.specs.Step.{State, Step, refuse, limited, isKnown, newDeck, withDecks, withEntry, afterDeck, obey, step}
+use Rattle.run_meaning.specs.Safe.{Safe}
+use Rattle.run_meaning.specs.Flat.{ahead, HasPlace, deckNumbers}
 use Rattle.run.specs.GapWords.{Ordered}
 use Rattle.run.specs.CardHeads.{cardOf}
-use Rattle.settling.specs.SettledBits.{flagged}
+use Rattle.library_yanks_bits.specs.SettledBits.{flagged}
 use Rattle.run.specs.Work.{Work, Stands, OpensAhead, PutCard}
-use Rattle.run.specs.Desk.{fitted, Sane, TextGoes, Tables, Held, Answered}
+use Rattle.run.specs.Desk.{fitted, Sane, Tables, Held, Answered}
 use Rattle.run.specs.Obeyed.{PutsLine, asksDeck, DeckSteps}
 use Rattle.run.specs.YankNames.{unknownIn}
 use Rattle.run.specs.declared.gap.Gap.{Gap}
 use Rattle.run.specs.declared.desk.Desk.{Desk}
 use Rattle.run.specs.declared.desk.TextAt.the-variants.{Gap as TextGap}
 use Rattle.run.specs.declared.desk.Stepped.the-variants.{Refused as SteppedOff}
-use Rattle.corrections.specs.declared.Why.the-variants.{Known}
-use Rattle.corrections.proofs.FlatFind.{eqb-yes, eqb-no}
-use Rattle.corrections.proofs.FlatStream.{deck-flat}
-use Rattle.corrections.proofs.FlatFlags.{flags-entry, above-free}
+use Rattle.run_meaning.specs.declared.Why.the-variants.{Known}
+use Rattle.run_meaning.proofs.FlatFind.{eqb-yes}
+use Rattle.run_meaning.proofs.FlatStream.{deck-flat}
+use Rattle.run_meaning.proofs.FlatFlags.{flags-entry, above-free}
 use Rattle.run.proofs.Stepping.{work-words, Counted, limited-answer}
 use Rattle.run.proofs.Starting.{known-is}
 
@@ -84,14 +83,6 @@ flag-end : (decks : List ℕ) (n : ℕ) (ns : List ℕ) → n < length decks →
 unfolding flagged
 flag-end decks n ns lt h m = go (eqb m n) (eqb→eq m n) (λ e. eqb-yes m n e) ∙ sym (any-append (eqb m) ns (n ∷ []))
   where
-    or-true : (a : Bool) → (a || true) ≡ true
-    or-true true = refl
-    or-true false = refl
-
-    or-false : (a : Bool) → (a || false) ≡ a
-    or-false true = refl
-    or-false false = refl
-
     go : (b : Bool) → (T b → m ≡ n) → (m ≡ n → b ≡ true) → not (eqb (getD (set decks n 1) m 0) 0) ≡ (member m ns || (b || false))
     go true f g =
         ap (λ (k : ℕ). not (eqb (getD (set decks n 1) k 0) 0)) (f tt)

@@ -1,4 +1,4 @@
--- A range ends with the card named: it is found above the gap, the cards up to it pass, and Limit is answered exactly where a limit would be passed.
+-- A range ends with the card named, and Limit is answered exactly where a limit would be passed.
 use Prim.Native.Nat.{ℕ, _+_, _≤_, _<_}
 use native.Mathlib.Omega.{arith}
 use mathlib.Core.Path.{_≡_, refl, sym, ap, _∙_}

@@ -1,4 +1,4 @@
--- A byte of a card, settled, is that byte under the new flags, and says what it says in the model; a word of three is its bytes.
+-- A byte of a card, settled, is that byte under the new flags, and says what it says in the model.
 use Prim.Native.Nat.{ℕ, _+_, _*_, _/_, _%_, _^_, _<_}
 use native.Mathlib.Omega.{arith}
 use mathlib.Core.Path.{_≡_, ap, _∙_}
@@ -6,8 +6,8 @@ use mathlib.Core.Bool.{Bool, true, false}
 use Rattle.words.specs.Base.{if_then_else_}
 use Rattle.library.specs.Library.{Byte}
 use Rattle.library.specs.Image.{bit, byteBits}
-use Rattle.settling.specs.SettledBits.{fixByte, fixWord, sayByte, sayWord}
-use Rattle.settling.proofs.Fixing.{say-off, say-on}
+use Rattle.library_yanks_bits.specs.SettledBits.{fixByte, fixWord, sayByte, sayWord}
+use Rattle.library_yanks_bits.proofs.Fixing.{say-off, say-on}
 use Rattle.run.specs.CardHeads.{FitsByte}
 use Rattle.run.proofs.Heads.{bits-number}
 

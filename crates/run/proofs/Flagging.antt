@@ -1,4 +1,4 @@
--- Flags cleared from the first on, then those of a list's numbers set one after another: what is flagged and what is still to do together stay the same.
+-- Flags cleared from the first on, then those of a list's numbers set one after another.
 use Prim.Native.Nat.{ℕ, suc, _+_, _≤_, _<_}
 use native.Mathlib.Omega.{arith}
 use mathlib.Core.Path.{_≡_, refl, sym, ap, ap₂, _∙_}
@@ -7,10 +7,11 @@ use mathlib.Core.List.{List, _∷_, map}
 use lib.Dec.{eqb}
 use lib.ListN.{length, take, drop, set, getD, List·getD-eq-default, drop-of-length-le}
 use lib.Seq.{drop-cons, getD-take, getD-set-same, getD-set-other}
+use Rattle.words.proofs.TestParts.{or-false, or-true}
 use Rattle.words.specs.Base.{member}
-use Rattle.settling.specs.SettledBits.{flagged}
+use Rattle.library_yanks_bits.specs.SettledBits.{flagged}
 use Rattle.run.specs.Loaded.{NoFlags}
-use Rattle.corrections.proofs.FlatFind.{compared, eqb-yes, eqb-no}
+use Rattle.run_meaning.proofs.FlatFind.{compared, eqb-yes, eqb-no}
 
 -- CLEARED up to the flag i
 abbrev pub Cleared : List ℕ → ℕ → Type 0
@@ -49,14 +50,6 @@ flag-set flags n m within =
     (λ e. ap (λ (k : ℕ). not (eqb (getD (set flags n 1) k 0) 0)) e ∙ ap (λ (k : ℕ). not (eqb k 0)) (getD-set-same flags n 1 0 within) ∙ sym (or-true (not (eqb (getD flags m 0) 0))) ∙ ap (λ (b : Bool). not (eqb (getD flags m 0) 0) || b) (sym (eqb-yes m n e)))
     (λ a. other (λ e. omega arith))
   where
-    or-true : (a : Bool) → (a || true) ≡ true
-    or-true true = refl
-    or-true false = refl
-
-    or-false : (a : Bool) → (a || false) ≡ a
-    or-false true = refl
-    or-false false = refl
-
     other : (m ≡ n → ⊥) → not (eqb (getD (set flags n 1) m 0) 0) ≡ (not (eqb (getD flags m 0) 0) || eqb m n)
     other ne =
         ap (λ (k : ℕ). not (eqb k 0)) (getD-set-other flags n m 1 0 ne)

@@ -1,4 +1,4 @@
--- One word more over the gap, and one byte more in the last word of a history: what a step of each loop adds.
+-- One word more over the gap, and one byte more in the last word of a history.
 use Prim.Native.Nat.{ℕ, suc, _+_, _-_, _*_, _/_, _%_, _^_, _≤_, _<_}
 use native.Mathlib.Omega.{arith}
 use native.Mathlib.Nat.{add-zero, add-suc, sub-zero}

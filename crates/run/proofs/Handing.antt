@@ -1,77 +1,26 @@
--- The library in work taken up from an image's cards, counted in words, and handed out again; and that a sound library's cards fit it.
-use Prim.Native.Nat.{ℕ, _+_, _-_, _≤_}
+-- The library in work taken up from an image's cards and handed out again; a sound library's cards fit it.
+use Prim.Native.Nat.{ℕ, _≤_}
 use native.Mathlib.Omega.{arith}
 use mathlib.Core.Path.{_≡_, refl, sym, ap, _∙_}
 use mathlib.Core.Bool.{Bool, false, _&&_, _||_}
 use mathlib.Core.List.{List, [], _∷_, _++_, map}
 use lib.Dec.{T, eqb, leb→le, ltb→lt}
-use lib.ListN.{length, take, drop, length-append, drop-of-length-le}
-use lib.Seq.{take-at}
-use Rattle.words.specs.Base.{any, all, member}
+use lib.ListN.{length}
+use Rattle.words.specs.Base.{any, member}
 use Rattle.words.specs.Text.{textWords}
 use Rattle.words.proofs.TextTrip.{written-fits}
 use Rattle.library.specs.Each.{Each}
 use Rattle.library.specs.Library.{Byte, Card, Deck, Library, history, deckCards, joined, stream}
 use Rattle.library.specs.Yanks.{Target, wholeSet, covers, Yank, yanksOf, yankedBy, settledYanks, yanked, lastSays}
-use Rattle.library.specs.Image.{cardWords, cardsWords, decksWords, tables, encode, shortHistory, limitTests, withinLimits}
-use Rattle.library.specs.Sound.{Sound, SoundDeck, SoundCard, isNamed, lineTests, numberTests}
-use Rattle.library.proofs.Each.{all-each, allOf-each, each-map, each-two}
-use Rattle.run.specs.CardHeads.{Fits, FitsByte, cardOf, headsOf, headsLen}
-use Rattle.run.specs.GapWords.{Ordered}
-use Rattle.run.specs.Work.{Work}
-use Rattle.run.specs.declared.gap.Gap.{Gap}
-use Rattle.run.proofs.Walking.{card-len, cards-append, cards-snoc}
-use Rattle.run.proofs.Locating.{lo-is, hi-is}
-
--- TAKEN UP: cards copied to the array's start, the gap behind them
-pub work-begun : (w : List ℕ) (yk : ℕ → Bool) (cs : List Card) (rest : List ℕ) → w ≡ cardsWords yk cs ++ rest → Each Fits cs
-    → Work w (record { lo = length (cardsWords yk cs); hi = length w }) yk cs []
-work-begun w yk cs rest e f =
-    let all : length w ≤ length w = omega arith in
-    record {
-      parted = record {
-        under = ap (λ (t : List ℕ). take (length (cardsWords yk cs)) t) e ∙ take-at (cardsWords yk cs) rest (length (cardsWords yk cs)) refl;
-        over = drop-of-length-le w all;
-      };
-      fit1 = f;
-      fit2 = tt;
-    }
-
--- COUNTED: all cards have the words on both sides of the gap
-pub work-length : (w : List ℕ) (g : Gap) → Ordered w g → (yk : ℕ → Bool) (cs1 cs2 : List Card) → Work w g yk cs1 cs2
-    → length (cardsWords yk (cs1 ++ cs2)) ≡ g .lo + (length w - g .hi)
-work-length w g order yk cs1 cs2 k =
-    let a : length (cardsWords yk (cs1 ++ cs2)) ≡ length (cardsWords yk cs1) + length (cardsWords yk cs2) =
-    ap length (cards-append yk cs1 cs2) ∙ length-append (cardsWords yk cs1) (cardsWords yk cs2) in
-    let b : length (cardsWords yk cs1) ≡ g .lo = lo-is w g order yk cs1 cs2 k in
-    let d : g .hi + length (cardsWords yk cs2) ≡ length w = hi-is w g order yk cs1 cs2 k in
-    omega arith
-
--- a new card has its head and its text
-pub put-length : (yk : ℕ → Bool) (cs : List Card) (line : List ℕ) (seq n : ℕ)
-    → length (cardsWords yk (cs ++ (cardOf line seq n ∷ []))) ≡ length (cardsWords yk cs) + (1 + length (textWords line))
-unfolding headsLen headsOf
-put-length yk cs line seq n =
-    ap length (cards-snoc yk cs (cardOf line seq n)) ∙ length-append (cardsWords yk cs) (cardWords yk (cardOf line seq n))
-    ∙ ap (λ (k : ℕ). length (cardsWords yk cs) + k) (card-len yk (cardOf line seq n))
-
--- HANDED OUT: the words to write are those of all cards
-pub work-out : (w : List ℕ) (g : Gap) (yk : ℕ → Bool) (cs1 cs2 : List Card) → Work w g yk cs1 cs2
-    → take (g .lo) w ++ drop (g .hi) w ≡ cardsWords yk (cs1 ++ cs2)
-work-out w g yk cs1 cs2 k = (λ i. k .parted .under i ++ k .parted .over i) ∙ sym (cards-append yk cs1 cs2)
+use Rattle.library.specs.Image.{cardsWords, decksWords, tables, encode, shortHistory, limitTests, withinLimits}
+use Rattle.library.specs.Sound.{Sound, SoundDeck, SoundCard, isEntry, lineTests, numberTests}
+use Rattle.library.proofs.EachTest.{all-each, allOf-each, each-map, each-two}
+use Rattle.run.specs.CardHeads.{Fits, FitsByte}
+use Rattle.run.proofs.Walking.{cards-append}
 
 -- flags that agree give the same words
 pub cards-agree : (p q : ℕ → Bool) (cs : List Card) → ((n : ℕ) → p n ≡ q n) → cardsWords p cs ≡ cardsWords q cs
 cards-agree p q cs h = λ i. cardsWords (λ n. h n i) cs
-
--- so the library in work is the same under them
-pub work-agree : (w : List ℕ) (g : Gap) (p q : ℕ → Bool) (cs1 cs2 : List Card) → ((n : ℕ) → p n ≡ q n) → Work w g p cs1 cs2 → Work w g q cs1 cs2
-work-agree w g p q cs1 cs2 h k =
-    record {
-      parted = record { under = k .parted .under ∙ cards-agree p q cs1 h; over = k .parted .over ∙ cards-agree p q cs2 h };
-      fit1 = k .fit1;
-      fit2 = k .fit2;
-    }
 
 -- OF A LIBRARY: what is yanked is yanked in every deck, so an image has the words of the stream of cards under one set of flags
 any-covers : (d e n : ℕ) (ts : List Target) → any (covers d n) ts ≡ any (covers e n) ts
@@ -100,7 +49,7 @@ encode-stream l =
     ∙ ap (λ (t : List ℕ). tables l ++ t) (sym (cards-append (yanked l 0) (l .yanks) (joined (map deckCards (l .decks)))))
 
 -- a sound card of a library within its limits fits
-named-fits : (directory : List ℕ) → length directory ≤ 1023 → (b : Byte) → T (isNamed directory (b .number)) → FitsByte b
+named-fits : (directory : List ℕ) → length directory ≤ 1023 → (b : Byte) → T (isEntry directory (b .number)) → FitsByte b
 named-fits directory small b t =
     let e = allOf-each (numberTests directory (b .number)) t in
     let high : b .number ≤ length directory = leb→le (b .number) (length directory) (e .1 .0) in
@@ -112,8 +61,8 @@ sound-fits directory small c s short =
     let columns : length (c .line) ≤ 80 = leb→le (length (c .line)) 80 (e .1 .0) in
     let words : length (textWords (c .line)) ≤ 16 = written-fits (c .line) columns in
     let named =
-    each-map (λ b. T (isNamed directory (b .number))) FitsByte (named-fits directory small) (history c)
-    (all-each (λ b. isNamed directory (b .number)) (history c) (s .named)) in
+    each-map (λ b. T (isEntry directory (b .number))) FitsByte (named-fits directory small) (history c)
+    (all-each (λ b. isEntry directory (b .number)) (history c) (s .named)) in
     let bytes : length (history c) ≤ 64 = leb→le (length (history c)) 64 short in
     let seq : c .seq ≤ 262143 = s .fits in
     record { count = omega arith; above = s .numbered; below = omega arith; first = named .0; later = named .1; short = omega arith }

@@ -1,34 +1,34 @@
--- An image that the check accepted, copied to the arrays of a run: its cards, their count, and the numbers of its decks.
-use Prim.Native.Nat.{ℕ, suc, _+_, _-_, _/_, _%_, _^_, _≤_, _<_}
+-- An accepted image copied to the arrays of a run: its cards, their count, and the numbers of its decks.
+use Prim.Native.Nat.{ℕ, suc, _+_, _-_, _≤_, _<_}
 use native.Mathlib.Omega.{arith}
 use native.Mathlib.Nat.{zero-add}
 use mathlib.Core.Path.{_≡_, refl, sym, ap, ap₂, _∙_}
 use mathlib.Core.Bool.{Bool, true, false, _&&_, _||_}
-use mathlib.Core.List.{List, [], _∷_, _++_, map, append-assoc}
+use mathlib.Core.List.{List, [], _∷_, _++_, map}
 use lib.Dec.{T, eqb}
-use lib.ListN.{length, take, drop, getD, length-map, length-drop}
-use lib.Seq.{drop-drop, take-append-seam, drop-append-seam, take-all, length-take-le}
+use lib.ListN.{length, take, drop, length-drop}
+use lib.Seq.{take-all, length-take-le}
 use Rattle.words.specs.Base.{if_then_else_, member, all}
 use Rattle.library.specs.Each.{Each}
 use Rattle.library.specs.Library.{Byte, Card, Deck, Library, deckCards, joined, stream, nameAt, entryOf, deckNames}
 use Rattle.library.specs.Yanks.{yanked}
 use Rattle.library.specs.Image.{cardsWords}
 use Rattle.library.specs.Check.{good, check}
-use Rattle.library.specs.Sound.{noTwo, sameName, isNamed, SoundDeck, Sound}
-use Rattle.library.proofs.Each.{and-parts}
+use Rattle.library.specs.Sound.{noTwo, sameName, isEntry, SoundDeck, Sound}
+use Rattle.library.proofs.EachTest.{and-parts}
 use Rattle.library.proofs.EntryNames.{entry-name}
-use Rattle.store.specs.Stored.{over}
-use Rattle.store.proofs.Storing.{over-all}
+use Rattle.library_store.specs.Stored.{over}
+use Rattle.library_store.proofs.StoredLibrary.{over-all}
 use Rattle.run.specs.CardHeads.{Fits}
 use Rattle.run.specs.CardSeek.{indexOf}
-use Rattle.library.proofs.Sizes.{words}
+use Rattle.library.proofs.LimitsByCount.{words}
 use Rattle.library.proofs.ImageParts.{image-long, cards-are}
-use Rattle.corrections.specs.Flat.{indexBy, deckNumbers, isDeckCard}
-use Rattle.settling.specs.SettledBits.{flagged}
+use Rattle.run_meaning.specs.Flat.{indexBy, deckNumbers, isDeckCard}
+use Rattle.library_yanks_bits.specs.SettledBits.{flagged}
 use Rattle.run.specs.Loaded.{titledCard}
-use Rattle.corrections.proofs.FlatFind.{eqb-yes, eqb-no}
-use Rattle.corrections.proofs.FlatStream.{cards-flat}
-use Rattle.corrections.proofs.FlatDecks.{deck-spot-card}
+use Rattle.run_meaning.proofs.FlatFind.{eqb-yes, eqb-no}
+use Rattle.run_meaning.proofs.FlatStream.{cards-flat}
+use Rattle.run_meaning.proofs.FlatDecks.{deck-spot-card}
 
 -- THE CARDS OF AN IMAGE, under the flags of YANK$$$
 module _ (old : List ℕ) (l : Library) (ok : check old ≡ good l) where
@@ -65,7 +65,7 @@ numbers-back : (directory : List ℕ) → T (noTwo sameName directory) → (ds :
     → map (entryOf directory) (map (λ d. nameAt directory (d .number)) ds) ≡ map (λ d. d .number) ds
 numbers-back directory once [] h = refl
 numbers-back directory once (d ∷ ds) h =
-    let named : T (isNamed directory (d .number)) = and-parts (isNamed directory (d .number)) (all (λ (b : Byte). isNamed directory (b .number)) []) (h .0 .first .named) .0 in
+    let named : T (isEntry directory (d .number)) = and-parts (isEntry directory (d .number)) (all (λ (b : Byte). isEntry directory (b .number)) []) (h .0 .first .named) .0 in
     ap₂ {C = List ℕ} (λ (x : ℕ) (xs : List ℕ). x ∷ xs) (entry-name directory once (d .number) named) (numbers-back directory once ds (h .1))
 
 pub listed-numbers : (l : Library) → Sound l → map (entryOf (l .directory)) (drop 1 (deckNames l)) ≡ deckNumbers l

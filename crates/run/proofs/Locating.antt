@@ -1,4 +1,4 @@
--- A card is looked for above the gap and then below it; where it is above, none below is the same, so its index counts through both.
+-- A card is looked for above the gap and then below it, and its index counts through both.
 use Prim.Native.Nat.{ℕ, zero, suc, _+_, _-_, _≤_, _<_}
 use native.Mathlib.Omega.{arith}
 use native.Mathlib.Nat.{zero-add}
@@ -10,13 +10,13 @@ use lib.ListN.{length, take, drop, length-append, length-drop, take-append-drop}
 use lib.Seq.{length-take-le, take-all, length-take-le}
 use borrow.Author.Tests.{eq-eqb, eqb-true, eqb-false}
 use Rattle.words.specs.Base.{if_then_else_, any}
-use Rattle.words.proofs.Tests.{true-T, and-both}
+use Rattle.words.proofs.TestParts.{true-T, and-both}
 use Rattle.library.specs.Each.{Each}
 use Rattle.library.specs.Library.{Card}
 use Rattle.library.specs.Image.{cardWords, cardsWords}
 use Rattle.library.specs.Sound.{noTwo, sameCard}
-use Rattle.library.proofs.Each.{and-parts}
-use Rattle.corrections.specs.Step.{isNamed}
+use Rattle.library.proofs.EachTest.{and-parts}
+use Rattle.run_meaning.specs.Step.{isCardOf}
 use Rattle.run.specs.CardHeads.{textOf, headsLen, Fits}
 use Rattle.run.specs.GapWords.{Ordered}
 use Rattle.run.specs.CardSeek.{indexOf, CardRun, Found, Finds}
@@ -56,16 +56,16 @@ index-second o s (c ∷ a) b h = go (eqb (c .owner) o && eqb (c .seq) s) (index-
     go false r k = let e : indexOf o s (a ++ b) ≡ length a + indexOf o s b = r (omega arith) in omega arith
 
 -- no two cards have one owner and number, so where one above the gap has them, none below it has
-any-index : (o s : ℕ) (cs : List Card) → indexOf o s cs < length cs → T (any (isNamed o s) cs)
+any-index : (o s : ℕ) (cs : List Card) → indexOf o s cs < length cs → T (any (isCardOf o s) cs)
 unfolding indexOf
 any-index o s [] h = absurd (omega arith)
 any-index o s (c ∷ cs) h = go (eqb (c .owner) o && eqb (c .seq) s) (any-index o s cs) h
   where
-    go : (b : Bool) → (indexOf o s cs < length cs → T (any (isNamed o s) cs)) → (if b then 0 else (suc (indexOf o s cs))) < suc (length cs) → T (b || any (isNamed o s) cs)
+    go : (b : Bool) → (indexOf o s cs < length cs → T (any (isCardOf o s) cs)) → (if b then 0 else (suc (indexOf o s cs))) < suc (length cs) → T (b || any (isCardOf o s) cs)
     go true r k = tt
     go false r k = r (omega arith)
 
-like-named : (o s : ℕ) (c d : Card) → T (isNamed o s c) → T (isNamed o s d) → T (sameCard c d)
+like-named : (o s : ℕ) (c d : Card) → T (isCardOf o s c) → T (isCardOf o s d) → T (sameCard c d)
 like-named o s c d p q =
     let a = and-parts (eqb (c .owner) o) (eqb (c .seq) s) p in
     let b = and-parts (eqb (d .owner) o) (eqb (d .seq) s) q in
@@ -73,11 +73,11 @@ like-named o s c d p q =
     (true-T (eqb (c .owner) (d .owner)) (eq-eqb (c .owner) (d .owner) (eqb→eq (c .owner) o (a .0) ∙ sym (eqb→eq (d .owner) o (b .0)))))
     (true-T (eqb (c .seq) (d .seq)) (eq-eqb (c .seq) (d .seq) (eqb→eq (c .seq) s (a .1) ∙ sym (eqb→eq (d .seq) s (b .1)))))
 
-any-like : (o s : ℕ) (c : Card) → T (isNamed o s c) → (a b : List Card) → T (any (isNamed o s) b) → T (any (sameCard c) (a ++ b))
+any-like : (o s : ℕ) (c : Card) → T (isCardOf o s c) → (a b : List Card) → T (any (isCardOf o s) b) → T (any (sameCard c) (a ++ b))
 any-like o s c p [] [] h = absurd h
-any-like o s c p [] (d ∷ b) h = go (isNamed o s d) (sameCard c d) (like-named o s c d p) (any-like o s c p [] b) h
+any-like o s c p [] (d ∷ b) h = go (isCardOf o s d) (sameCard c d) (like-named o s c d p) (any-like o s c p [] b) h
   where
-    go : (x y : Bool) → (T x → T y) → (T (any (isNamed o s) b) → T (any (sameCard c) b)) → T (x || any (isNamed o s) b) → T (y || any (sameCard c) b)
+    go : (x y : Bool) → (T x → T y) → (T (any (isCardOf o s) b) → T (any (sameCard c) b)) → T (x || any (isCardOf o s) b) → T (y || any (sameCard c) b)
     go true true f r t = tt
     go true false f r t = absurd (f tt)
     go false true f r t = tt
@@ -88,12 +88,12 @@ any-like o s c p (d ∷ a) b h = go (sameCard c d) (any-like o s c p a b h)
     go true t = tt
     go false t = t
 
-pub none-below : (o s : ℕ) (a b : List Card) → T (noTwo sameCard (a ++ b)) → T (any (isNamed o s) b) → indexOf o s a ≡ length a
+pub none-below : (o s : ℕ) (a b : List Card) → T (noTwo sameCard (a ++ b)) → T (any (isCardOf o s) b) → indexOf o s a ≡ length a
 unfolding indexOf
 none-below o s [] b t h = refl
 none-below o s (c ∷ a) b t h = let p = and-parts (not (any (sameCard c) (a ++ b))) (noTwo sameCard (a ++ b)) t in go (eqb (c .owner) o && eqb (c .seq) s) (λ x. x) (p .0) (none-below o s a b (p .1) h)
   where
-    go : (x : Bool) → (T x → T (isNamed o s c)) → T (not (any (sameCard c) (a ++ b))) → indexOf o s a ≡ length a → (if x then 0 else (suc (indexOf o s a))) ≡ suc (length a)
+    go : (x : Bool) → (T x → T (isCardOf o s c)) → T (not (any (sameCard c) (a ++ b))) → indexOf o s a ≡ length a → (if x then 0 else (suc (indexOf o s a))) ≡ suc (length a)
     go true f n r = absurd (T-not (any (sameCard c) (a ++ b)) n (any-like o s c (f tt) a b h))
     go false f n r = ap suc r
 

@@ -1,4 +1,4 @@
--- A range marked in one part: the tables and the count of cards of YANK$$$ stay, and so does all that is not in that part.
+-- A range marked in one part: the tables, the count of YANK$$$ and all that is not in that part stay.
 use Prim.Native.Nat.{ℕ, zero, suc, _+_, _-_, _≤_, _<_}
 use native.Mathlib.Omega.{arith}
 use mathlib.Core.Path.{_≡_, refl, sym, ap, _∙_, subst}
@@ -8,19 +8,19 @@ use lib.Dec.{T, eqb, eqb→eq}
 use lib.ListN.{length, take}
 use Rattle.library.specs.Library.{Card, Deck, Library, deckCards, parts, stream, deckNames}
 use Rattle.library.specs.Yanks.{yanked}
-use Rattle.corrections.specs.Step.{inDeck, unitNumber, changeAt, mark, overRange, numberAt, markIn, Spot, isDeckSpot, isBarred}
-use Rattle.corrections.specs.Flat.{ahead, Stood, flat, HasPlace, flatPlace}
+use Rattle.run_meaning.specs.Step.{inDeck, unitNumber, changeAt, marked, overRange, numberAt, markIn, Spot, isDeckSpot, isBarred}
+use Rattle.run_meaning.specs.Flat.{ahead, Stood, flat, HasPlace, flatPlace}
 use Rattle.run.specs.Desk.{TextGoes, Tables}
 use Rattle.run.specs.declared.desk.Desk.{Desk}
 use Rattle.run.specs.declared.desk.TextAt.the-variants.{Gap as TextGap}
-use Rattle.corrections.proofs.FlatFind.{stood-below}
-use Rattle.corrections.proofs.FlatFlags.{flags-decks}
-use Rattle.corrections.proofs.FlatLimits.{range-cards}
+use Rattle.run_meaning.proofs.FlatFind.{stood-below}
+use Rattle.run_meaning.proofs.FlatFlags.{flags-decks}
+use Rattle.run_meaning.proofs.FlatLimits.{range-cards}
 use Rattle.run.proofs.Texting.{ahead-change, tables-change}
 
 -- the marks of a range in deck k
 abbrev marksAt : Library → Bool → ℕ → Card → Card
-marksAt l was k = mark (yanked l (numberAt (l .decks) k)) was (unitNumber l)
+marksAt l was k = marked (yanked l (numberAt (l .decks) k)) was (unitNumber l)
 
 pub mark-tables : (dir names decks : List ℕ) (d e : Desk) (l : Library) (was : Bool) (p i j : ℕ) → e .entries ≡ d .entries → e .decks ≡ d .decks
     → Tables dir names decks d l → Tables dir names decks e (markIn l was p i j)
@@ -35,7 +35,7 @@ mark-tables dir names decks d e l was zero i j x y t = record {
 mark-tables dir names decks d e l was (suc k) i j x y t = tables-change dir names decks d e l (overRange (marksAt l was k) (i - 1) (j - 1)) k x y t
 
 pub mark-yanks : (l : Library) (was : Bool) (p i j : ℕ) → length (markIn l was p i j .yanks) ≡ length (l .yanks)
-mark-yanks l was zero i j = range-cards (mark (yanked l 0) was (unitNumber l)) i j (l .yanks)
+mark-yanks l was zero i j = range-cards (marked (yanked l 0) was (unitNumber l)) i j (l .yanks)
 mark-yanks l was (suc k) i j = refl
 
 not-zero : (P : Type 0) → eqb 0 0 ≡ false → P

@@ -1,4 +1,4 @@
--- A card that passes over the gap with one byte more is written there as the card with that byte, its activity bit the byte's own.
+-- A card that passes over the gap with one byte more is written there as the card with that byte.
 use Prim.Native.Nat.{ℕ, _+_, _-_, _*_, _/_, _%_, _^_, _≤_, _<_}
 use native.Mathlib.Omega.{arith}
 use mathlib.Core.Path.{_≡_, refl, sym, ap, _∙_}

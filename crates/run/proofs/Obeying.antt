@@ -1,4 +1,4 @@
--- What each step promises is what its line asks, over the five arrays; a line that is refused or skipped changes none of them.
+-- What each step promises is what its line asks; a line that is refused or skipped changes no array.
 use Prim.Native.Nat.{ℕ}
 use mathlib.Core.Path.{_≡_, refl, sym, subst}
 use mathlib.Core.Bool.{Bool}
@@ -6,12 +6,12 @@ use mathlib.Core.List.{List, [], _∷_}
 use lib.Dec.{T}
 use types.Run.{OneOf, miss}
 use denote.Enum.Declared.{tagOf}
-use Rattle.lines.proofs.Line.{the-type}
-use Rattle.lines.specs.Directive.{directive}
-use Rattle.lines.specs.declared.CardName.{CardName}
-use Rattle.lines.specs.declared.Line.{Line}
-use Rattle.lines.specs.declared.Line.the-variants.{Text, Skipped, Deck as DeckLine·, Comdeck, Ident, Insert, Before, Delete, Restore, Yank as YankLine, Outside as LineOutside, Long as LineLong, Malformed as LineMalformed, NotCarried as LineNotCarried}
-use Rattle.corrections.specs.Step.{obey, step}
+use Rattle.words_lines.proofs.Line.{the-type}
+use Rattle.words_lines.specs.Directive.{directive}
+use Rattle.words_lines.specs.declared.CardName.{CardName}
+use Rattle.words_lines.specs.declared.Line.{Line}
+use Rattle.words_lines.specs.declared.Line.the-variants.{Text, Skipped, Deck as DeckLine·, Comdeck, Ident, Insert, Before, Delete, Restore, Yank as YankLine, Outside as LineOutside, Long as LineLong, Malformed as LineMalformed, NotCarried as LineNotCarried}
+use Rattle.run_meaning.specs.Step.{obey, step}
 use Rattle.run.specs.Desk.{Sane}
 use Rattle.run.specs.Obeyed.{TextSteps, IdentSteps, asksDeck, DeckSteps}
 use Rattle.run.specs.Corrected.{InsertSteps, BeforeSteps}
@@ -20,7 +20,7 @@ use Rattle.run.specs.Streamed.{inArrays}
 use Rattle.run.specs.declared.desk.Desk.{Desk}
 use Rattle.run.specs.declared.desk.Stepped.{Stepped}
 use Rattle.run.specs.declared.desk.Stepped.the-variants.{Went as SteppedOn, Refused as SteppedOff}
-use Rattle.corrections.specs.declared.Why.the-variants.{Outside, Long, Malformed, NotCarried}
+use Rattle.run_meaning.specs.declared.Why.the-variants.{Outside, Long, Malformed, NotCarried}
 
 -- a line that is skipped, and those that are refused for what they are
 pub skipped-obeys : (a : Arrays) (d : Desk) (line : List ℕ) → directive line ≡ Skipped → ObeysLine a d line a (SteppedOn d)

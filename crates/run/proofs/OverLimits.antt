@@ -1,5 +1,5 @@
--- Where an operation finds no room, the library it would make is over a limit: row 31 is then the answer, whatever its tables are.
-use Prim.Native.Nat.{ℕ, _+_, _≤_, _<_}
+-- Where an operation finds no room, the library it would make is over a limit, and 31 is the answer.
+use Prim.Native.Nat.{ℕ, _+_, _≤_}
 use native.Mathlib.Omega.{arith}
 use mathlib.Core.Path.{_≡_, refl, ap, _∙_}
 use mathlib.Core.Bool.{Bool, true, false, _&&_}
@@ -8,11 +8,11 @@ use lib.Dec.{T, leb→le}
 use lib.ListN.{length, length-append}
 use borrow.Author.Tests.{le-leb}
 use Rattle.words.specs.Base.{all}
-use Rattle.words.proofs.Tests.{T-true, true-T}
+use Rattle.words.proofs.TestParts.{T-true, true-T}
 use Rattle.library.specs.Library.{Card, Library, stream}
 use Rattle.library.specs.Yanks.{yanked}
 use Rattle.library.specs.Image.{cardsWords, tables, encode, shortHistory, limitTests, withinLimits}
-use Rattle.library.proofs.Each.{allOf-each}
+use Rattle.library.proofs.EachTest.{allOf-each}
 use Rattle.run.specs.Work.{within}
 use Rattle.run.proofs.Walking.{cards-append}
 use Rattle.run.proofs.Working.{and-true, cards-len}
@@ -22,22 +22,6 @@ use Rattle.run.proofs.Handing.{encode-stream}
 not-so : (b : Bool) → (T b → ⊥) → b ≡ false
 not-so true h = absurd (h tt)
 not-so false h = refl
-
--- too many words of cards, or a history over 64 bytes
-pub words-limit : (l : Library) (yk : ℕ → Bool) → 65536 < length (cardsWords yk (stream l)) → withinLimits l ≡ false
-unfolding withinLimits
-words-limit l yk over =
-    not-so (withinLimits l) (λ t.
-    let e = allOf-each (limitTests l) t in
-    let a : length (encode l) ≤ 65536 = leb→le (length (encode l)) 65536 (e .1 .1 .1 .1 .0) in
-    let b : length (encode l) ≡ length (tables l) + length (cardsWords (yanked l 0) (stream l)) =
-    ap length (encode-stream l) ∙ length-append (tables l) (cardsWords (yanked l 0) (stream l)) in
-    let d : length (cardsWords (yanked l 0) (stream l)) ≡ length (cardsWords yk (stream l)) = cards-len (yanked l 0) yk (stream l) in
-    omega arith)
-
-pub history-limit : (l : Library) → (T (all shortHistory (stream l)) → ⊥) → withinLimits l ≡ false
-unfolding withinLimits
-history-limit l long = not-so (withinLimits l) (λ t. long (allOf-each (limitTests l) t .1 .1 .1 .0))
 
 all-parts : (xs ys : List Card) → T (all shortHistory (xs ++ ys)) → T (all shortHistory xs) × T (all shortHistory ys)
 all-parts [] ys t = (tt, t)

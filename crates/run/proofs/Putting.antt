@@ -1,4 +1,4 @@
--- A new card's words are its head, which has one byte of its own set, and its text; written below the gap they make it the last card there.
+-- A new card's head and text, written below the gap, make it the last card there.
 use Prim.Native.Nat.{ℕ, suc, _+_, _-_, _*_, _^_, _≤_, _<_}
 use native.Mathlib.Omega.{arith}
 use native.Mathlib.Numerals.{add-one}
@@ -15,8 +15,8 @@ use Rattle.words.specs.Text.{textWords}
 use Rattle.library.specs.Library.{Card}
 use Rattle.library.specs.Yanks.{active}
 use Rattle.library.specs.Image.{bit, cardWords, cardsWords}
-use Rattle.store.specs.Stored.{over}
-use Rattle.store.proofs.Storing.{over-all}
+use Rattle.library_store.specs.Stored.{over}
+use Rattle.library_store.proofs.StoredLibrary.{over-all}
 use Rattle.run.specs.CardHeads.{cardOf, Fits}
 use Rattle.run.specs.GapWords.{Ordered, Parted}
 use Rattle.run.specs.ByteMarks.{Puts}

@@ -6,10 +6,10 @@ use mathlib.Core.Bool.{Bool, true, false, not}
 use mathlib.Core.List.{List}
 use mathlib.Core.Option.{Option, none, some}
 use lib.Dec.{T, eqb}
-use Rattle.lines.specs.Directive.{directive}
-use Rattle.lines.specs.declared.CardName.{CardName}
-use Rattle.corrections.specs.Step.{State, Step, refused, refuse, limited, isSet, inSet, Spot, find, isBackwards, isBarred, afterMark, markRange, obey, step}
-use Rattle.corrections.specs.Flat.{flat}
+use Rattle.words_lines.specs.Directive.{directive}
+use Rattle.words_lines.specs.declared.CardName.{CardName}
+use Rattle.run_meaning.specs.Step.{State, Step, refused, refuse, limited, isSet, inSet, Spot, find, isBackwards, isBarred, afterMark, markRange, obey, step}
+use Rattle.run_meaning.specs.Flat.{flat}
 use Rattle.run.specs.Desk.{Held, Answered}
 use Rattle.run.specs.Corrected.{SoughtAs, SeeksCard}
 use Rattle.run.specs.Resettled.{asksMark, MarkSteps}
@@ -18,9 +18,9 @@ use Rattle.run.specs.declared.desk.Desk.{Desk}
 use Rattle.run.specs.declared.desk.Stepped.{Stepped}
 use Rattle.run.specs.declared.desk.Stepped.the-variants.{Refused as SteppedOff}
 use Rattle.run.specs.declared.fixes.Sought.{Sought}
-use Rattle.corrections.specs.declared.Why.{Why}
-use Rattle.corrections.specs.declared.Why.the-variants.{Nowhere, NoCard, Backwards, Barred}
-use Rattle.corrections.proofs.FlatFind.{backwards-flat, ltb-yes, ltb-no}
+use Rattle.run_meaning.specs.declared.Why.{Why}
+use Rattle.run_meaning.specs.declared.Why.the-variants.{Nowhere, NoCard, Backwards, Barred}
+use Rattle.run_meaning.proofs.FlatFind.{backwards-flat, ltb-yes, ltb-no}
 use Rattle.run.proofs.MarkedParts.{spot-below}
 
 range-asked : (s : State) (line : List ℕ) (was : Bool) (p q : CardName) → directive line ≡ asksMark was p q → step s line ≡ inSet s (markRange s was (find (s .lib) p) (find (s .lib) q))

@@ -1,49 +1,24 @@
--- A range among all cards: where its ends stand, and what marking it from its first card to its last makes of the whole list.
-use Prim.Native.Nat.{ℕ, zero, suc, _+_, _-_, _≤_, _<_}
+-- A range among all cards: where its ends stand, and what marking it makes of the whole list.
+use Prim.Native.Nat.{ℕ, zero, suc, _+_, _-_, _≤_}
 use native.Mathlib.Omega.{arith}
-use native.Mathlib.Nat.{add-zero}
 use mathlib.Core.Path.{_≡_, refl, sym, ap, _∙_}
 use mathlib.Core.Bool.{Bool, true, false}
 use mathlib.Core.List.{List, [], _∷_, _++_, map, append-assoc}
-use mathlib.Core.Option.{Option, none, some}
 use lib.ListN.{length, take, drop, length-map}
 use lib.Seq.{drop-drop}
-use Rattle.words.specs.Base.{if_then_else_, placeFrom}
+use Rattle.words.specs.Base.{if_then_else_}
 use Rattle.library.specs.Library.{Card}
-use Rattle.corrections.specs.Step.{isNamed, overRange, putIn}
+use Rattle.run_meaning.specs.Step.{isCardOf, overRange}
 use Rattle.run.specs.CardSeek.{indexOf}
 use Rattle.run.specs.ByteMarks.{markOne, markAll}
 use Rattle.run.specs.Work.{upTo, beyondCard, rangeOf}
-
--- the index agrees with the definition of a run: the first card of this name, or none
-pub place-from : (o s n : ℕ) (cs : List Card) → indexOf o s cs < length cs → placeFrom (isNamed o s) n cs ≡ some (n + indexOf o s cs)
-unfolding indexOf
-place-from o s n [] h = absurd (omega arith)
-place-from o s n (c ∷ cs) h = go (isNamed o s c) (place-from o s (suc n) cs) h
-  where
-    go : (b : Bool) → (indexOf o s cs < length cs → placeFrom (isNamed o s) (suc n) cs ≡ some (suc n + indexOf o s cs))
-        → (if b then 0 else suc (indexOf o s cs)) < suc (length cs)
-        → (if b then some n else placeFrom (isNamed o s) (suc n) cs) ≡ some (n + (if b then 0 else suc (indexOf o s cs)))
-    go true r k = ap {B = Option ℕ} (λ m. some m) (sym (add-zero n))
-    go false r k = r (omega arith) ∙ ap {B = Option ℕ} (λ m. some m) (let e : suc n + indexOf o s cs ≡ n + suc (indexOf o s cs) = omega arith in e)
-
-pub place-none : (o s n : ℕ) (cs : List Card) → length cs ≤ indexOf o s cs → placeFrom (isNamed o s) n cs ≡ none
-unfolding indexOf
-place-none o s n [] h = refl
-place-none o s n (c ∷ cs) h = go (isNamed o s c) (place-none o s (suc n) cs) h
-  where
-    go : (b : Bool) → (length cs ≤ indexOf o s cs → placeFrom (isNamed o s) (suc n) cs ≡ none)
-        → suc (length cs) ≤ (if b then 0 else suc (indexOf o s cs))
-        → (if b then some n else placeFrom (isNamed o s) (suc n) cs) ≡ none
-    go true r k = absurd (omega arith)
-    go false r k = r (omega arith)
 
 -- from a card on, a later one is nearer by its index
 pub index-drop : (o s i : ℕ) (cs : List Card) → i ≤ indexOf o s cs → indexOf o s (drop i cs) ≡ indexOf o s cs - i
 unfolding indexOf
 index-drop o s zero cs h = omega arith
 index-drop o s (suc i) [] h = absurd (omega arith)
-index-drop o s (suc i) (c ∷ cs) h = go (isNamed o s c) (index-drop o s i cs) h
+index-drop o s (suc i) (c ∷ cs) h = go (isCardOf o s c) (index-drop o s i cs) h
   where
     go : (b : Bool) → (i ≤ indexOf o s cs → indexOf o s (drop i cs) ≡ indexOf o s cs - i) → suc i ≤ (if b then 0 else suc (indexOf o s cs))
         → indexOf o s (drop i cs) ≡ (if b then 0 else suc (indexOf o s cs)) - suc i
@@ -93,10 +68,6 @@ pub range-stream : (yk : ℕ → Bool) (was n i j : ℕ) (cs : List Card) → i 
 unfolding markAll
 range-stream yk was n i j cs h =
     append-assoc (take i cs) (map (markOne yk was n) (rangeOf i j cs)) (drop (j + 1) cs) ∙ sym (over-range (markOne yk was n) i j cs h)
-
--- and a new card at the gap is what it makes of a text line
-pub put-stream : (c : Card) (i : ℕ) (cs : List Card) → (take i cs ++ (c ∷ [])) ++ drop i cs ≡ putIn i c cs
-put-stream c i cs = append-assoc (take i cs) (c ∷ []) (drop i cs)
 
 -- no card is added or lost
 pub marks-count : (yk : ℕ → Bool) (was n : ℕ) (cs : List Card) → length (markAll yk was n cs) ≡ length cs

@@ -1,4 +1,4 @@
--- A range that was found: barred where it has a deck card, past a limit where its marks do not fit, and else the new stream is the range marked in place.
+-- A range that was found is barred, past a limit, or marked in place.
 use Prim.Native.Nat.{ℕ, suc, _+_, _-_, _≤_, _<_}
 use native.Mathlib.Omega.{arith}
 use mathlib.Core.Path.{_≡_, refl, sym, ap, ap₂, _∙_, subst, fun-ext}
@@ -9,15 +9,15 @@ use lib.ListN.{length, take, drop, length-append, length-drop}
 use lib.Seq.{length-take-le}
 use borrow.Author.Tests.{leb-true, leb-false}
 use Rattle.words.specs.Base.{if_then_else_, any, all}
-use Rattle.words.proofs.Tests.{true-T}
-use Rattle.lines.specs.declared.CardName.{CardName}
+use Rattle.words.proofs.TestParts.{true-T}
+use Rattle.words_lines.specs.declared.CardName.{CardName}
 use Rattle.library.specs.Library.{Card, Deck, Library, deckCards, joined, parts, stream}
 use Rattle.library.specs.Yanks.{yanked}
 use Rattle.library.specs.Image.{cardsWords, shortHistory, withinLimits}
-use Rattle.library.proofs.Sizes.{words-under, within-small, cards-append}
-use Rattle.corrections.specs.Step.{inYanks, inDeck, State, Step, went, refused, refuse, limited, isSet, unitNumber, Spot, isNamed, isYankPart, isDeckSpot, isBarred, placeAfter, overRange, afterMark, step}
-use Rattle.corrections.specs.Safe.{Safe}
-use Rattle.corrections.specs.Flat.{indexBy, ahead, Stood, flat, deckNumbers, isDeckCard}
+use Rattle.library.proofs.LimitsByCount.{words-under, within-small, cards-append}
+use Rattle.run_meaning.specs.Step.{inYanks, inDeck, State, Step, went, refused, refuse, limited, isSet, unitNumber, Spot, isCardOf, isYankPart, isDeckSpot, isBarred, placeAfter, overRange, afterMark, step}
+use Rattle.run_meaning.specs.Safe.{Safe}
+use Rattle.run_meaning.specs.Flat.{indexBy, ahead, Stood, flat, deckNumbers, isDeckCard}
 use Rattle.run.specs.GapWords.{Ordered}
 use Rattle.run.specs.CardSeek.{indexOf}
 use Rattle.run.specs.ByteMarks.{markOne, markAll}
@@ -33,25 +33,25 @@ use Rattle.run.specs.declared.desk.TextAt.the-variants.{Gap as TextGap}
 use Rattle.run.specs.declared.desk.Stepped.{Stepped}
 use Rattle.run.specs.declared.desk.Stepped.the-variants.{Refused as SteppedOff}
 use Rattle.run.specs.declared.fixes.Sought.{Sought}
-use Rattle.corrections.specs.declared.Why.the-variants.{Barred, NoCard, Limit}
+use Rattle.run_meaning.specs.declared.Why.the-variants.{Barred, NoCard, Limit}
 use Rattle.run.proofs.Locating.{run-above}
 use Rattle.run.proofs.Working.{and-true}
 use Rattle.run.proofs.Between.{marks-between}
 use Rattle.run.proofs.RangeCards.{range-stream, marks-count}
 use Rattle.run.proofs.OverLimits.{within-limit}
-use Rattle.corrections.proofs.FlatFind.{yank-part-flat, ltb-yes, ltb-no}
-use Rattle.corrections.proofs.FlatDecks.{barred-flat}
-use Rattle.corrections.proofs.FlatStream.{marks, mark-flat}
-use Rattle.corrections.proofs.FlatFlags.{unit-free}
-use Rattle.corrections.proofs.FlatLimits.{range-cards, range-short}
+use Rattle.run_meaning.proofs.FlatFind.{yank-part-flat, ltb-yes, ltb-no}
+use Rattle.run_meaning.proofs.FlatDecks.{barred-flat}
+use Rattle.run_meaning.proofs.FlatStream.{marks, mark-flat}
+use Rattle.run_meaning.proofs.FlatFlags.{unit-free}
+use Rattle.run_meaning.proofs.FlatLimits.{range-cards, range-short}
 use Rattle.run.proofs.Stepping.{work-words, Counted, limited-answer}
 use Rattle.run.proofs.Texting.{begun-pos}
 use Rattle.run.proofs.MarkedParts.{mark-tables, mark-yanks, mark-same-yanks, mark-same-flags, mark-place, mark-same-decks, unbarred, index-order, spot-below}
 
-index-named : (o s : ℕ) (cs : List Card) → indexOf o s cs ≡ indexBy (isNamed o s) cs
+index-named : (o s : ℕ) (cs : List Card) → indexOf o s cs ≡ indexBy (isCardOf o s) cs
 unfolding indexOf
 index-named o s [] = refl
-index-named o s (c ∷ cs) = ap (λ (n : ℕ). if isNamed o s c then 0 else suc n) (index-named o s cs)
+index-named o s (c ∷ cs) = ap (λ (n : ℕ). if isCardOf o s c then 0 else suc n) (index-named o s cs)
 
 -- a state is sane whatever the words are
 pub same-sane : (w v : List ℕ) (d : Desk) → Sane w d → length v ≡ length w → Sane v d
@@ -142,7 +142,7 @@ module _ (w dir decks flags : List ℕ) (d : Desk) (was : ℕ) (f q : Sought) (s
         ∙ sym (range-stream yk was (unitNumber l) i j (stream l) le)
 
     last-index : indexOf (q .own) seq (stream l) ≡ j
-    last-index = index-named (q .own) seq (stream l) ∙ ap (λ (k : ℕ). indexBy (isNamed (q .own) k) (stream l)) sq ∙ sym (sb .first)
+    last-index = index-named (q .own) seq (stream l) ∙ ap (λ (k : ℕ). indexBy (isCardOf (q .own) k) (stream l)) sq ∙ sym (sb .first)
 
     numbered : d .entries ≡ unitNumber l
     numbered = held .tables .entries

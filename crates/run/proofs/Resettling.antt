@@ -1,5 +1,5 @@
--- All bits settled again: the flags of the yanked sets are those of the words of YANK$$$, whatever bits these had, and then the words have the bits of those flags.
-use Prim.Native.Nat.{ℕ, _+_, _-_, _≤_, _<_}
+-- All bits settled again: the words have the bits of the flags that the words of YANK$$$ settle.
+use Prim.Native.Nat.{ℕ, _≤_, _<_}
 use native.Mathlib.Omega.{arith}
 use mathlib.Core.Path.{_≡_, refl, sym, ap, ap₂, _∙_, subst, fun-ext}
 use mathlib.Core.Bool.{Bool, true, false, _&&_, not}
@@ -7,6 +7,7 @@ use mathlib.Core.List.{List, _++_}
 use lib.Dec.{T, eqb, eqb→eq}
 use lib.ListN.{length, getD, take, set}
 use lib.Seq.{take-append-le, take-take, take-at, length-take-le, getD-set-same, getD-set-other}
+use Rattle.words.proofs.TestParts.{bool-iff}
 use Rattle.words.specs.Base.{if_then_else_, any}
 use Rattle.library.specs.Library.{Card, Library}
 use Rattle.library.specs.Yanks.{Yank, covers, lastSays, yanked}
@@ -14,21 +15,21 @@ use Rattle.library.specs.Settled.{NamesLower}
 use Rattle.library.specs.Growth.{count}
 use Rattle.library.specs.Image.{cardsWords}
 use Rattle.library.specs.Sound.{Sound}
-use Rattle.library.proofs.Each.{each-map}
-use Rattle.library.proofs.Anys.{any-false, bool-iff}
-use Rattle.library.proofs.Acts.{sound-lower}
-use Rattle.library.proofs.Flags.{yankList, flags, yanked-rule}
-use Rattle.yanked.specs.Flags.{settledFlags}
-use Rattle.yanked.proofs.Yanking.{settled-yanked}
-use Rattle.library.proofs.Sizes.{cards-size, cards-append}
-use Rattle.corrections.specs.Step.{State}
-use Rattle.settling.specs.SettledBits.{flagged}
+use Rattle.library.proofs.EachTest.{each-map}
+use Rattle.library.proofs.AnyAndAll.{any-false}
+use Rattle.library.proofs.YankTargets.{sound-lower}
+use Rattle.library.proofs.SettledFlags.{yankList, flags, yanked-rule}
+use Rattle.library_yanks.specs.Flags.{settledFlags}
+use Rattle.library_yanks.proofs.Yanking.{settled-yanked}
+use Rattle.library.proofs.LimitsByCount.{cards-size, cards-append}
+use Rattle.run_meaning.specs.Step.{State}
+use Rattle.library_yanks_bits.specs.SettledBits.{flagged}
 use Rattle.run.specs.Work.{Work, Resettles}
 use Rattle.run.specs.Desk.{Sane, Held, HeldUnder}
 use Rattle.run.specs.Resettled.{Resettled}
 use Rattle.run.specs.declared.gap.Gap.{Gap}
 use Rattle.run.specs.declared.desk.Desk.{Desk}
-use Rattle.corrections.proofs.FlatFind.{eqb-yes}
+use Rattle.run_meaning.proofs.FlatFind.{eqb-yes}
 use Rattle.run.proofs.YankPutting.{deckCardsOf, stream-is}
 
 -- NO NUMBER IS 0

@@ -1,4 +1,4 @@
--- A run from the check to the answer: taken up, its lines obeyed, written out, each part in the words of the definitions.
+-- A run from the check to the answer: taken up, its lines obeyed, written out.
 use Prim.Native.Nat.{ℕ, _≤_, _<_}
 use native.Mathlib.Omega.{arith}
 use mathlib.Core.Path.{_≡_, refl, sym, ap, ap₂, _∙_, subst}
@@ -6,14 +6,13 @@ use mathlib.Core.Bool.{Bool}
 use mathlib.Core.List.{List}
 use lib.ListN.{length}
 use Rattle.words.specs.Base.{if_then_else_}
-use Rattle.lines.specs.Directive.{lines}
-use Rattle.library.specs.Library.{Library}
+use Rattle.words_lines.specs.Directive.{lines}
 use Rattle.library.specs.Yanks.{yanked}
-use Rattle.library.specs.Check.{Checking, good, bad, check, checked}
+use Rattle.library.specs.Check.{Checking, check, checked}
 use Rattle.library.specs.declared.Fault.{Fault}
 use Rattle.library.specs.declared.Checked.the-variants.{Sound as CheckedSound, Refused as CheckedRefused}
-use Rattle.corrections.specs.Step.{start}
-use Rattle.corrections.specs.Run.{Steps, ended, stopped, steps, notUpdated, fitted, update, fromUpdated, fromChecked, running, ran, runInto}
+use Rattle.run_meaning.specs.Step.{start}
+use Rattle.run_meaning.specs.Run.{Steps, ended, stopped, steps, notUpdated, fitted, update, fromUpdated, runChecked, running, ran, runInto}
 use Rattle.run.specs.Desk.{Sane}
 use Rattle.run.specs.Resettled.{Resettled, Arrays}
 use Rattle.run.specs.Streamed.{inArrays, EndedIn, ObeysStream}
@@ -22,11 +21,11 @@ use Rattle.library.proofs.ImageParts.{accepted-is, rejected-is}
 use Rattle.run.specs.Loaded.{Loads}
 use Rattle.run.specs.declared.desk.Desk.{Desk}
 use Rattle.run.specs.declared.streams.Ended.the-variants.{Ended as EndedOn, Stopped as EndedOff}
-use Rattle.corrections.specs.declared.Ran.{Ran}
-use Rattle.corrections.specs.declared.Ran.the-variants.{Library as OfLibrary, Refused}
-use Rattle.corrections.specs.declared.Why.{Why}
-use Rattle.corrections.specs.declared.Why.the-variants.{Stream}
-use Rattle.corrections.proofs.FlatFind.{ltb-yes, ltb-no}
+use Rattle.run_meaning.specs.declared.Ran.{Ran}
+use Rattle.run_meaning.specs.declared.Ran.the-variants.{Library as OfLibrary, Refused}
+use Rattle.run_meaning.specs.declared.Why.{Why}
+use Rattle.run_meaning.specs.declared.Why.the-variants.{Stream}
+use Rattle.run_meaning.proofs.FlatFind.{ltb-yes, ltb-no}
 
 pub sane-again : (w v : List ℕ) (d : Desk) → length v ≡ length w → Sane w d → Sane v d
 sane-again w v d e s =
@@ -87,10 +86,10 @@ module _ (old : List ℕ) where
     pub run-refused : (f : Fault) (p : ℕ) → checked (check old) ≡ CheckedRefused f p → Answers (running old bytes (length space)) space space (OfLibrary f p)
     unfolding running
     run-refused f p e =
-        subst (λ (x : Checking). Answers (fromChecked x bytes (length space)) space space (OfLibrary f p)) (sym (rejected-is old f p e)) (record { answer = refl; written = refl })
+        subst (λ (x : Checking). Answers (runChecked x bytes (length space)) space space (OfLibrary f p)) (sym (rejected-is old f p e)) (record { answer = refl; written = refl })
 
     pub run-accepted : (new : List ℕ) (r : Ran) → checked (check old) ≡ CheckedSound → RunsStream old bytes space new r → Answers (running old bytes (length space)) space new r
     unfolding running
     run-accepted new r e h =
         let g = accepted-is old e in
-        subst (λ (x : Checking). Answers (fromChecked x bytes (length space)) space new r) (sym (g .1)) (h (g .0) (g .1))
+        subst (λ (x : Checking). Answers (runChecked x bytes (length space)) space new r) (sym (g .1)) (h (g .0) (g .1))

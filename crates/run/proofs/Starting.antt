@@ -1,39 +1,35 @@
--- A unit begins: a name that is known is refused; a new one stands at the directory's end, and nothing else of the library in work changes with it.
-use Prim.Native.Nat.{ℕ, zero, suc, _+_, _-_, _≤_, _<_}
+-- A unit begins: a known name is refused; a new one stands at the directory's end, and nothing else changes.
+use Prim.Native.Nat.{ℕ, suc, _+_, _-_, _≤_, _<_}
 use native.Mathlib.Omega.{arith}
 use native.Mathlib.Numerals.{add-one}
 use mathlib.Core.Path.{_≡_, refl, sym, ap, ap₂, _∙_, subst}
-use mathlib.Core.Bool.{Bool, true, false, _||_, not}
-use mathlib.Core.List.{List, [], _∷_, _++_, map}
-use lib.Dec.{T, eqb, eqb→eq}
-use lib.ListN.{length, getD, take, drop, set, length-append, length-take, length-drop, drop-of-length-le}
+use mathlib.Core.Bool.{Bool, true, false, not}
+use mathlib.Core.List.{List, [], _∷_, _++_}
+use lib.Dec.{T}
+use lib.ListN.{length, getD, take, drop, set, length-append, drop-of-length-le}
 use lib.Seq.{take-suc-set, drop-cons, getD-take, length-take-le}
-use Rattle.words.specs.Base.{if_then_else_, all, member}
-use Rattle.lines.specs.Directive.{directive}
-use Rattle.lines.specs.declared.Line.the-variants.{Ident}
-use Rattle.library.specs.Library.{Card, Library, stream, nameAt, deckNames, reserved, entryOf, entryFrom}
+use Rattle.words.specs.Base.{if_then_else_, all}
+use Rattle.words_lines.specs.Directive.{directive}
+use Rattle.words_lines.specs.declared.Line.the-variants.{Ident}
+use Rattle.library.specs.Library.{Card, Library, deckNames, reserved, entryFrom}
 use Rattle.library.specs.Yanks.{yanked}
 use Rattle.library.specs.Image.{cardsWords, shortHistory}
 use Rattle.library.specs.Sound.{Sound}
-use Rattle.library.proofs.Directories.{deck-names-append}
-use Rattle.library.proofs.Sizes.{words, words-under, within-small}
-use Rattle.corrections.specs.Step.{State, Step, went, refused, refuse, limited, isKnown, withDecks, withEntry, afterIdent, putIdent, obey, step}
-use Rattle.corrections.specs.Safe.{Safe}
-use Rattle.corrections.specs.Flat.{deckNumbers}
-use Rattle.run.specs.GapWords.{Ordered}
+use Rattle.library.proofs.NameAtEnd.{deck-names-append}
+use Rattle.library.proofs.LimitsByCount.{words, words-under, within-small}
+use Rattle.run_meaning.specs.Step.{State, Step, refuse, limited, isKnown, withEntry, afterIdent, obey, step}
+use Rattle.run_meaning.specs.Safe.{Safe}
 use Rattle.run.specs.Work.{Work}
-use Rattle.run.specs.Desk.{fitted, Sane, SaneAfter, Tables, Held, Answered}
+use Rattle.run.specs.Desk.{fitted, Sane, Held, Answered}
 use Rattle.run.specs.Obeyed.{StaysSane, IdentSteps}
 use Rattle.run.specs.YankNames.{unknownIn}
-use Rattle.run.specs.declared.gap.Gap.{Gap}
 use Rattle.run.specs.declared.desk.Desk.{Desk}
 use Rattle.run.specs.declared.desk.TextAt.the-variants.{Nowhere as TextNowhere}
-use Rattle.run.specs.declared.desk.Stepped.{Stepped}
-use Rattle.run.specs.declared.desk.Stepped.the-variants.{Went as SteppedOn, Refused as SteppedOff}
-use Rattle.corrections.specs.declared.Why.the-variants.{Known}
-use Rattle.corrections.proofs.FlatFind.{eqb-yes, eqb-no}
-use Rattle.corrections.proofs.FlatStream.{entry-flat}
-use Rattle.corrections.proofs.FlatFlags.{flags-entry}
+use Rattle.run.specs.declared.desk.Stepped.the-variants.{Refused as SteppedOff}
+use Rattle.run_meaning.specs.declared.Why.the-variants.{Known}
+use Rattle.run_meaning.proofs.FlatFind.{eqb-yes, eqb-no}
+use Rattle.run_meaning.proofs.FlatStream.{entry-flat}
+use Rattle.run_meaning.proofs.FlatFlags.{flags-entry}
 use Rattle.run.proofs.Stepping.{work-words, Counted, limited-answer, fitted-sane}
 
 -- THE DIRECTORY LOOKED THROUGH, from place i on

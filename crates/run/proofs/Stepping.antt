@@ -1,49 +1,33 @@
--- A step in code and the step of the definitions: by counts the same limits, and each line refused for the same reason or leading to a state that is held.
-use Prim.Native.Nat.{ℕ, zero, suc, _+_, _-_, _≤_, _<_}
+-- A step in code and the step of the definitions: the same limits, the same refusals, a state that is held.
+use Prim.Native.Nat.{ℕ, _+_, _-_, _≤_, _<_}
 use native.Mathlib.Omega.{arith}
-use mathlib.Core.Path.{_≡_, refl, sym, ap, ap₂, _∙_, subst}
-use mathlib.Core.Bool.{Bool, true, false, _&&_, not}
-use mathlib.Core.List.{List, [], _∷_, _++_, append-assoc}
+use mathlib.Core.Path.{_≡_, refl, sym, ap, _∙_, subst}
+use mathlib.Core.Bool.{Bool, true, false, not}
+use mathlib.Core.List.{List, _++_}
 use lib.Dec.{T, leb, leb→le, le→leb}
-use lib.ListN.{length, take, drop, length-append, length-drop, length-take}
-use lib.Seq.{take-append-seam, drop-append-seam, take-at, drop-at}
+use lib.ListN.{length, take, drop, length-append, length-drop}
 use borrow.Author.Tests.{le-leb, le-ltb}
 use Rattle.words.specs.Base.{if_then_else_, all, allOf}
-use Rattle.words.specs.Text.{trim}
-use Rattle.words.proofs.Tests.{T-true}
-use Rattle.lines.specs.Directive.{directive}
-use Rattle.lines.specs.declared.Line.{Line}
-use Rattle.lines.specs.declared.Line.the-variants.{Text}
+use Rattle.words.proofs.TestParts.{T-true, bool-iff}
 use Rattle.library.specs.Each.{Each}
-use Rattle.library.specs.Library.{Card, Deck, Library, stream}
-use Rattle.library.specs.Yanks.{yanked}
+use Rattle.library.specs.Library.{Card, Library, stream}
 use Rattle.library.specs.Image.{cardsWords, shortHistory, withinLimits}
-use Rattle.library.specs.Sound.{Sound}
-use Rattle.library.proofs.Each.{allOf-each, each-allOf}
-use Rattle.library.proofs.Sizes.{words, words-under, Small, within-small, small-within, not-small, cards-append}
-use Rattle.library.proofs.Anys.{bool-iff}
-use Rattle.corrections.specs.Step.{TextPlace, nowhere, inYanks, inDeck, State, Step, went, refused, limited, newCard, putIn, changeAt, afterText, putText, obey, step, unitNumber, withDecks}
-use Rattle.corrections.specs.Safe.{Begun, Open, Safe}
-use Rattle.corrections.specs.Flat.{HasPlace, flatPlace, deckNumbers}
+use Rattle.library.proofs.EachTest.{allOf-each, each-allOf}
+use Rattle.library.proofs.LimitsByCount.{words, Small, within-small, small-within, cards-append}
+use Rattle.run_meaning.specs.Step.{State, Step, went, refused, limited, step}
+use Rattle.run_meaning.specs.Safe.{Safe}
 use Rattle.library.specs.Counts.{countTests, withinCounts}
-use Rattle.corrections.specs.Numbering.{numberAfter}
-use Rattle.run.specs.GapWords.{Parted, Ordered}
-use Rattle.run.specs.CardHeads.{Fits, cardOf}
-use Rattle.run.specs.Work.{Work, PutCard}
-use Rattle.run.specs.Desk.{wordCount, fitTests, fitted, Sane, SaneAfter, TextGoes, Tables, Held, Answered}
+use Rattle.run_meaning.specs.Numbering.{numberAfter}
+use Rattle.run.specs.GapWords.{Ordered}
+use Rattle.run.specs.Work.{Work}
+use Rattle.run.specs.Desk.{wordCount, fitTests, fitted, SaneAfter, Held, Answered}
 use Rattle.run.specs.declared.gap.Gap.{Gap}
 use Rattle.run.specs.declared.desk.Desk.{Desk}
-use Rattle.run.specs.declared.desk.TextAt.{TextAt}
-use Rattle.run.specs.declared.desk.TextAt.the-variants.{Nowhere as TextNowhere, Yanks as TextYanks, Gap as TextGap}
 use Rattle.run.specs.declared.desk.Stepped.{Stepped}
 use Rattle.run.specs.declared.desk.Stepped.the-variants.{Went as SteppedOn, Refused as SteppedOff}
-use Rattle.corrections.specs.declared.Why.{Why}
-use Rattle.corrections.specs.declared.Why.the-variants.{Limit, Nowhere, Barred}
-use Rattle.corrections.proofs.Went.{Went}
-use Rattle.corrections.proofs.StepSound.{step-safe}
-use Rattle.corrections.proofs.FlatStream.{text-flat}
-use Rattle.corrections.proofs.FlatFlags.{flags-decks, unit-free}
-use Rattle.corrections.proofs.FlatLimits.{put-cards, put-short}
+use Rattle.run_meaning.specs.declared.Why.the-variants.{Limit}
+use Rattle.run_meaning.proofs.HoldsThrough.{Went}
+use Rattle.run_meaning.proofs.StepSound.{step-safe}
 
 -- 31 BY COUNTS
 pub record Fitting (d : Desk) : Type 0 where
@@ -163,11 +147,11 @@ module _ (w dir names decks flags : List ℕ) (d : Desk) (t : State) (c : Counte
       go : (b : Bool) → withinLimits (t .lib) ≡ b → Answered w dir names decks flags (fitted d) (limited t)
       go true q =
           let f : Fitting d = small-fitting (within-small (t .lib) (subst (λ (x : Bool). T x) (sym q) tt)) in
-          let g : limited t ≡ went t = ap (λ (x : Bool). Rattle.corrections.specs.Step.refuse (not x) Limit (went t)) q in
+          let g : limited t ≡ went t = ap (λ (x : Bool). Rattle.run_meaning.specs.Step.refuse (not x) Limit (went t)) q in
           subst (λ (x : Stepped). Answered w dir names decks flags x (limited t)) (sym (fitted-yes d f))
           (subst (λ (x : Step). Answered w dir names decks flags (SteppedOn d) x) (sym g) (held (f .ordered) (kept g)))
       go false q =
           let off : Fitting d → ⊥ = λ f. let z : _≡_ {A = Bool} true false = sym (small-within (t .lib) (fitting-small f)) ∙ q in subst (λ (x : Bool). T x) z tt in
-          let g : limited t ≡ refused Limit = ap (λ (x : Bool). Rattle.corrections.specs.Step.refuse (not x) Limit (went t)) q in
+          let g : limited t ≡ refused Limit = ap (λ (x : Bool). Rattle.run_meaning.specs.Step.refuse (not x) Limit (went t)) q in
           subst (λ (x : Stepped). Answered w dir names decks flags x (limited t)) (sym (fitted-no d off))
           (subst (λ (x : Step). Answered w dir names decks flags (SteppedOff Limit) x) (sym g) refl)

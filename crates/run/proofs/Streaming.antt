@@ -1,20 +1,21 @@
--- The lines of a stream, one after another: what is left of the stream from here goes as the whole stream goes from the start.
+-- What is left of a stream from a line on goes as the whole stream goes from the start.
 use Prim.Native.Nat.{ℕ, suc, _+_, _≤_, _<_}
 use native.Mathlib.Omega.{arith}
 use mathlib.Core.Path.{_≡_, refl, sym, ap, ap₂, _∙_, subst}
 use mathlib.Core.List.{List, _∷_}
 use lib.ListN.{length, drop}
-use Rattle.lines.specs.Directive.{lineOf, lineAfter, lines}
-use Rattle.lines.proofs.Streams.{lines-none, lines-more, line-within, after-line, line-after-is}
-use Rattle.corrections.specs.Step.{State, Step, went, refused, step}
-use Rattle.corrections.specs.Run.{Steps, ended, stopped, onward, steps}
+use Rattle.words_lines.specs.Directive.{lines}
+use Rattle.words_lines.specs.FirstLine.{lineOf, lineAfter}
+use Rattle.words_lines.proofs.StreamLines.{lines-none, lines-more, line-within, after-line, line-after-is}
+use Rattle.run_meaning.specs.Step.{State, Step, went, refused, step}
+use Rattle.run_meaning.specs.Run.{Steps, ended, stopped, onward, steps}
 use Rattle.run.specs.Desk.{Sane}
 use Rattle.run.specs.Resettled.{Arrays, HeldIn, AnsweredIn, ObeysLine}
 use Rattle.run.specs.Streamed.{EndedIn, ObeysStream}
 use Rattle.run.specs.declared.desk.Desk.{Desk}
 use Rattle.run.specs.declared.desk.Stepped.the-variants.{Went as SteppedOn, Refused as SteppedOff}
 use Rattle.run.specs.declared.streams.Ended.the-variants.{Ended as EndedOn, Stopped as EndedOff}
-use Rattle.corrections.specs.declared.Why.{Why}
+use Rattle.run_meaning.specs.declared.Why.{Why}
 
 -- the line at `at` is the n-th
 pub record Reached (bytes : List ℕ) (b : Arrays) (e : Desk) (n at : ℕ) (s : State) : Type 0 where

@@ -1,4 +1,4 @@
--- A library taken up is held at the start of a run: its cards below the gap, its tables in their arrays, its decks flagged, its cards counted.
+-- A library taken up is held at the start of a run: cards below the gap, tables in arrays, decks flagged.
 use Prim.Native.Nat.{ℕ, _+_, _-_, _/_, _%_, _^_, _≤_}
 use native.Mathlib.Omega.{arith}
 use mathlib.Core.Path.{_≡_, refl, sym, ap, ap₂, _∙_}
@@ -13,12 +13,12 @@ use Rattle.library.specs.Yanks.{yanked}
 use Rattle.library.specs.Image.{cardsWords}
 use Rattle.library.specs.Check.{good, check}
 use Rattle.library.specs.Sound.{Sound}
-use Rattle.library.proofs.Sizes.{Small}
-use Rattle.corrections.specs.Step.{start}
+use Rattle.library.proofs.LimitsByCount.{Small}
+use Rattle.run_meaning.specs.Step.{start}
 use Rattle.run.specs.CardHeads.{Fits}
 use Rattle.run.specs.CardSeek.{CardRun, Finds}
-use Rattle.corrections.specs.Flat.{indexBy, deckNumbers}
-use Rattle.settling.specs.SettledBits.{flagged}
+use Rattle.run_meaning.specs.Flat.{indexBy, deckNumbers}
+use Rattle.library_yanks_bits.specs.SettledBits.{flagged}
 use Rattle.run.specs.Desk.{Sane, Tables, HeldUnder}
 use Rattle.run.specs.Loaded.{titledCard, FindsTitle, FlagsDecks, Loads}
 use Rattle.run.specs.declared.desk.Desk.{Desk}

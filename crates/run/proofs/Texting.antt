@@ -1,4 +1,4 @@
--- A text line: the card that is put at the gap is the new card of the definitions at the flat place of the text.
+-- A text line: the card put at the gap is the new card of the definitions at the flat place of the text.
 use Prim.Native.Nat.{ℕ, zero, suc, _+_, _-_, _≤_, _<_}
 use native.Mathlib.Omega.{arith}
 use native.Mathlib.Numerals.{add-one}
@@ -7,43 +7,40 @@ use mathlib.Core.Bool.{Bool, true, false, not}
 use mathlib.Core.List.{List, [], _∷_, _++_, map, append-assoc}
 use lib.Dec.{T}
 use lib.ListN.{length, take, drop, length-append}
-use lib.Seq.{take-append-seam, drop-append-seam, take-at, append-snoc}
+use lib.Seq.{take-append-seam, drop-append-seam, take-at}
 use Rattle.words.specs.Base.{if_then_else_, all, member}
 use Rattle.words.specs.Display.{inChart}
 use Rattle.words.specs.Text.{trim, textWords}
-use Rattle.compressing.specs.Answers.{compressing, compressInto}
-use Rattle.compressing.specs.declared.Compressed.{Compressed}
-use Rattle.compressing.specs.declared.Compressed.the-variants.{Words, Outside as OutsideSet, Long as TooLong}
+use Rattle.words_text_compress.specs.Answers.{compressing, compressInto}
+use Rattle.words_text_compress.specs.declared.Compressed.{Compressed}
+use Rattle.words_text_compress.specs.declared.Compressed.the-variants.{Words, Outside as OutsideSet, Long as TooLong}
 use Rattle.words.proofs.TextTrip.{trimmed-the-same, written-fits}
-use Rattle.lines.specs.Directive.{directive, lineNumber}
-use Rattle.lines.specs.declared.Line.the-variants.{Text}
-use Rattle.lines.proofs.Asked.{Readable, line-readable}
-use Rattle.library.specs.Library.{Card, Deck, Library, deckCards, parts, stream, nameAt, deckNames, reserved}
+use Rattle.words_lines.specs.Directive.{directive, lineNumber}
+use Rattle.words_lines.specs.declared.Line.the-variants.{Text}
+use Rattle.words_lines.proofs.AskedLine.{Readable, line-readable}
+use Rattle.library.specs.Library.{Card, Deck, Library, deckCards, stream, nameAt, deckNames, reserved}
 use Rattle.library.specs.Yanks.{yanked}
 use Rattle.library.specs.Image.{cardsWords, shortHistory}
-use Rattle.library.specs.Sound.{isNamed, Sound}
 use Rattle.library.proofs.EntryNames.{is-named}
-use Rattle.library.proofs.Sizes.{words, words-under, within-small}
-use Rattle.corrections.specs.Step.{TextPlace, nowhere, inYanks, inDeck, State, Step, went, refused, limited, newCard, putIn, changeAt, afterText, putText, obey, step, unitNumber, withDecks}
-use Rattle.corrections.specs.Safe.{Begun, Open, Safe}
-use Rattle.corrections.specs.Flat.{ahead, HasPlace, flatPlace, deckNumbers}
-use Rattle.run.specs.GapWords.{Ordered}
+use Rattle.library.proofs.LimitsByCount.{words, words-under, within-small}
+use Rattle.run_meaning.specs.Step.{TextPlace, nowhere, inYanks, inDeck, State, Step, newCard, putIn, changeAt, afterText, putText, obey, step, withDecks}
+use Rattle.run_meaning.specs.Safe.{Begun, Open, Safe}
+use Rattle.run_meaning.specs.Flat.{ahead, HasPlace, flatPlace}
 use Rattle.run.specs.CardHeads.{cardOf}
 use Rattle.run.specs.Work.{Work, PutCard, PutsCard}
-use Rattle.run.specs.Desk.{fitted, Sane, TextGoes, Tables, Held, Answered}
+use Rattle.run.specs.Desk.{fitted, TextGoes, Tables, Held, Answered}
 use Rattle.run.specs.Obeyed.{PutsLine, TextSteps}
 use Rattle.run.specs.declared.gap.Gap.{Gap}
 use Rattle.run.specs.declared.desk.Desk.{Desk}
 use Rattle.run.specs.declared.desk.TextAt.{TextAt}
 use Rattle.run.specs.declared.desk.TextAt.the-variants.{Nowhere as TextNowhere, Yanks as TextYanks, Gap as TextGap}
-use Rattle.run.specs.declared.desk.Stepped.{Stepped}
-use Rattle.run.specs.declared.desk.Stepped.the-variants.{Went as SteppedOn, Refused as SteppedOff}
-use Rattle.corrections.specs.declared.Why.the-variants.{Nowhere, Barred}
-use Rattle.corrections.proofs.SameDecks.{length-change}
-use Rattle.corrections.proofs.Parts.{numbers-change}
-use Rattle.corrections.proofs.FlatStream.{text-flat}
-use Rattle.corrections.proofs.FlatFlags.{flags-decks, unit-free}
-use Rattle.corrections.proofs.FlatLimits.{put-cards, put-short}
+use Rattle.run.specs.declared.desk.Stepped.the-variants.{Refused as SteppedOff}
+use Rattle.run_meaning.specs.declared.Why.the-variants.{Nowhere, Barred}
+use Rattle.run_meaning.proofs.SameDecks.{length-change}
+use Rattle.run_meaning.proofs.ChangedParts.{numbers-change}
+use Rattle.run_meaning.proofs.FlatStream.{text-flat}
+use Rattle.run_meaning.proofs.FlatFlags.{flags-decks, unit-free}
+use Rattle.run_meaning.proofs.FlatLimits.{put-cards, put-short}
 use Rattle.run.proofs.Stepping.{work-words, Counted, limited-answer}
 
 -- A LINE'S WORDS
@@ -197,7 +194,7 @@ module _ (w : List ℕ) (d : Desk) (line v : List ℕ) (h : Gap) (room : length 
     fits = λ le. total ∙ work-words v h yk (held .below ++ (c ∷ [])) (held .above) (putted .work le) (le, omega (arith, high, same, room)) ∙ ap (λ (n : ℕ). h .lo + (n - h .hi)) same;
     crowded = λ lt.
         let x = putted .crowded lt in
-        let e : length (cardsWords yk ((held .below ++ (c ∷ [])) ++ held .above)) ≡ length (cardsWords yk (held .below ++ (c ∷ [])) ++ cardsWords yk (held .above)) = ap length (Rattle.library.proofs.Sizes.cards-append yk (held .below ++ (c ∷ [])) (held .above)) in
+        let e : length (cardsWords yk ((held .below ++ (c ∷ [])) ++ held .above)) ≡ length (cardsWords yk (held .below ++ (c ∷ [])) ++ cardsWords yk (held .above)) = ap length (Rattle.library.proofs.LimitsByCount.cards-append yk (held .below ++ (c ∷ [])) (held .above)) in
         omega (arith, x, total, room, length-append (cardsWords yk (held .below ++ (c ∷ []))) (cardsWords yk (held .above)));
   }
 

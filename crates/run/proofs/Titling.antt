@@ -12,7 +12,7 @@ use Rattle.library.specs.Library.{Card}
 use Rattle.library.specs.Image.{cardsWords}
 use Rattle.run.specs.CardHeads.{textOf, headsLen, SeesAny}
 use Rattle.run.specs.CardSeek.{CardRun}
-use Rattle.corrections.specs.Flat.{indexBy}
+use Rattle.run_meaning.specs.Flat.{indexBy}
 use Rattle.run.specs.Corrected.{titled}
 use Rattle.run.specs.Loaded.{titledCard, Titled, FindsTitle}
 use Rattle.run.specs.declared.card.Seen.{Seen}

@@ -1,4 +1,4 @@
--- Cards stand one after another, each as long as its heads and its text, so a walk goes from card to card and misses none.
+-- Cards stand one after another, each as long as its heads and its text, so a walk misses none.
 use Prim.Native.Nat.{ℕ, zero, suc, _+_, _/_, _%_, _^_, _≤_, _<_}
 use native.Mathlib.Omega.{arith}
 use native.Mathlib.Nat.{add-zero, zero-add}

@@ -1,4 +1,4 @@
--- What the operations mean for the library in work: marked cards fit, the limit of 64 bytes is a test, and settled cards are those under the new flags.
+-- In the library in work marked cards fit, and settled cards are those under the new flags.
 use Prim.Native.Nat.{ℕ, _+_, _-_, _≤_, _<_}
 use native.Mathlib.Omega.{arith}
 use mathlib.Core.Path.{_≡_, refl, sym, ap, _∙_}
@@ -17,7 +17,7 @@ use Rattle.library.specs.Image.{cardWords, cardsWords, shortHistory}
 use Rattle.run.specs.CardHeads.{FitsByte, Fits}
 use Rattle.run.specs.GapWords.{Ordered}
 use Rattle.run.specs.ByteMarks.{markOne, markAll, Short, MarksRange}
-use Rattle.settling.specs.SettledBits.{settledWords}
+use Rattle.library_yanks_bits.specs.SettledBits.{settledWords}
 use Rattle.run.specs.Work.{Work, Resettles}
 use Rattle.run.specs.declared.gap.Gap.{Gap}
 use Rattle.run.proofs.Ranging.{given}

@@ -1,4 +1,4 @@
--- The library in work written out: the tables and the cards below and above the gap, one after another, are the image; its length is told by counts.
+-- The library in work written out, tables and cards below and above the gap, is the image.
 use Prim.Native.Nat.{ℕ, _+_, _-_, _*_, _^_, _<_}
 use native.Mathlib.Omega.{arith}
 use mathlib.Core.Path.{_≡_, refl, sym, ap, ap₂, _∙_}
@@ -9,21 +9,21 @@ use lib.Dec.{ltb, leb, lt→ltb, ltb→lt, T}
 use lib.ListN.{length, take, drop, length-drop}
 use lib.Seq.{take-all, length-take-le}
 use Rattle.words.specs.Base.{if_then_else_}
-use Rattle.words.proofs.Tests.{T-true}
+use Rattle.words.proofs.TestParts.{T-true}
 use Rattle.library.specs.Library.{Library, stream, deckNames}
 use Rattle.library.specs.Yanks.{yanked}
 use Rattle.library.specs.Image.{cardsWords, header, counts, encode}
-use Rattle.store.specs.Stored.{libraryWords, hasRoom, libraryInto}
-use Rattle.store.proofs.Storing.{library-long, room-is, into-is, into-kept}
-use Rattle.library.proofs.Sizes.{cards-append}
-use Rattle.corrections.specs.Step.{State}
-use Rattle.corrections.specs.Run.{ended, updated, notUpdated, fromUpdated, ran, runInto}
+use Rattle.library_store.specs.Stored.{libraryWords, hasRoom, libraryInto}
+use Rattle.library_store.proofs.StoredLibrary.{library-long, room-is, into-is, into-kept}
+use Rattle.library.proofs.LimitsByCount.{cards-append}
+use Rattle.run_meaning.specs.Step.{State}
+use Rattle.run_meaning.specs.Run.{ended, updated, notUpdated, fromUpdated, ran, runInto}
 use Rattle.run.specs.Desk.{Sane, Held}
 use Rattle.run.specs.Written.{afterLines, Finishes}
 use Rattle.run.specs.declared.desk.Desk.{Desk}
-use Rattle.corrections.specs.declared.Ran.the-variants.{Done, Refused}
-use Rattle.corrections.specs.declared.Why.the-variants.{Space}
-use Rattle.corrections.proofs.FlatStream.{encode-flat}
+use Rattle.run_meaning.specs.declared.Ran.the-variants.{Done, Refused}
+use Rattle.run_meaning.specs.declared.Why.the-variants.{Space}
+use Rattle.run_meaning.proofs.FlatStream.{encode-flat}
 
 module _ (w dir names : List ℕ) (d : Desk) (sane : Sane w d) (long : length dir ≡ 1024) (listed : 255 < length names) where
   abbrev n : ℕ

@@ -1,4 +1,4 @@
--- YANK$$$ marked: all of it stands below the gap, its words are those that the other cards leave, and the bits are settled for the new flags.
+-- YANK$$$ marked: all of it stands below the gap, and the bits are settled for the new flags.
 use Prim.Native.Nat.{ℕ, _+_, _-_, _≤_}
 use native.Mathlib.Omega.{arith}
 use mathlib.Core.Path.{_≡_, sym, ap, _∙_, subst}
@@ -9,9 +9,9 @@ use lib.Seq.{take-append-seam, length-take-le}
 use Rattle.words.specs.Base.{if_then_else_, allOf}
 use Rattle.library.specs.Library.{Card, deckCards, joined, stream}
 use Rattle.library.specs.Image.{cardsWords}
-use Rattle.library.proofs.Sizes.{words, words-under, Small, within-small}
-use Rattle.corrections.specs.Step.{TextPlace, State, limited, step}
-use Rattle.corrections.specs.Safe.{Safe}
+use Rattle.library.proofs.LimitsByCount.{words, words-under, Small, within-small}
+use Rattle.run_meaning.specs.Step.{TextPlace, State, limited, step}
+use Rattle.run_meaning.specs.Safe.{Safe}
 use Rattle.run.specs.GapWords.{Ordered}
 use Rattle.run.specs.Work.{Work, OpensAt}
 use Rattle.run.specs.Desk.{fitTests, fitted, Sane, SaneAfter, TextGoes, HeldUnder, Answered}
@@ -22,8 +22,8 @@ use Rattle.run.specs.declared.desk.Desk.{Desk}
 use Rattle.run.specs.declared.desk.TextAt.the-variants.{Yanks as TextYanks}
 use Rattle.run.specs.declared.desk.Stepped.{Stepped}
 use Rattle.run.specs.declared.desk.Stepped.the-variants.{Went as SteppedOn, Refused as SteppedOff}
-use Rattle.corrections.specs.declared.Why.{Why}
-use Rattle.corrections.specs.declared.Why.the-variants.{Limit}
+use Rattle.run_meaning.specs.declared.Why.{Why}
+use Rattle.run_meaning.specs.declared.Why.the-variants.{Limit}
 use Rattle.run.proofs.Locating.{lo-is}
 use Rattle.run.proofs.Stepping.{Fitting, fitted-yes, fitted-sane, work-words, Counted, limited-answer}
 

@@ -1,4 +1,4 @@
--- The card of a YANK line at the end of YANK$$$: under the flags of before it stands directly below the gap, and once the bits are settled the new state is held.
+-- The card of a YANK line at the end of YANK$$$: once the bits are settled the new state is held.
 use Prim.Native.Nat.{ℕ, suc, _+_, _-_, _≤_, _<_}
 use native.Mathlib.Omega.{arith}
 use native.Mathlib.Numerals.{add-one}
@@ -10,15 +10,15 @@ use lib.ListN.{length, take, drop, length-append}
 use lib.Seq.{take-at, drop-at}
 use Rattle.words.specs.Base.{if_then_else_, all, allOf}
 use Rattle.words.specs.Text.{trim}
-use Rattle.lines.specs.Directive.{directive, lineNumber}
-use Rattle.lines.specs.declared.Line.the-variants.{Yank as YankLine}
-use Rattle.lines.proofs.Asked.{Readable, line-readable}
+use Rattle.words_lines.specs.Directive.{directive, lineNumber}
+use Rattle.words_lines.specs.declared.Line.the-variants.{Yank as YankLine}
+use Rattle.words_lines.proofs.AskedLine.{Readable, line-readable}
 use Rattle.library.specs.Library.{Card, Library, deckCards, joined, stream, deckNames}
 use Rattle.library.specs.Yanks.{yanked}
 use Rattle.library.specs.Image.{cardsWords, shortHistory}
-use Rattle.library.proofs.Sizes.{words, words-under, Small, within-small, cards-append}
-use Rattle.corrections.specs.Step.{State, limited, newCard, withYanks, afterYank, step}
-use Rattle.corrections.specs.Safe.{Begun, Safe}
+use Rattle.library.proofs.LimitsByCount.{words, words-under, Small, within-small, cards-append}
+use Rattle.run_meaning.specs.Step.{State, limited, newCard, withYanks, afterYank, step}
+use Rattle.run_meaning.specs.Safe.{Begun, Safe}
 use Rattle.run.specs.CardHeads.{cardOf}
 use Rattle.run.specs.Work.{Work, OpensAt, PutCard}
 use Rattle.run.specs.Desk.{fitTests, fitted, Sane, Tables, Held, HeldUnder, Answered}
@@ -29,10 +29,10 @@ use Rattle.run.specs.declared.desk.Desk.{Desk}
 use Rattle.run.specs.declared.desk.TextAt.the-variants.{Nowhere as TextNowhere}
 use Rattle.run.specs.declared.desk.Stepped.{Stepped}
 use Rattle.run.specs.declared.desk.Stepped.the-variants.{Went as SteppedOn, Refused as SteppedOff}
-use Rattle.corrections.specs.declared.Why.the-variants.{Limit}
-use Rattle.corrections.proofs.FlatStream.{yank-flat}
-use Rattle.corrections.proofs.FlatFlags.{unit-free}
-use Rattle.corrections.proofs.FlatLimits.{put-short}
+use Rattle.run_meaning.specs.declared.Why.the-variants.{Limit}
+use Rattle.run_meaning.proofs.FlatStream.{yank-flat}
+use Rattle.run_meaning.proofs.FlatFlags.{unit-free}
+use Rattle.run_meaning.proofs.FlatLimits.{put-short}
 use Rattle.run.proofs.Stepping.{work-words, fitted-yes, Counted, limited-answer}
 use Rattle.run.proofs.Texting.{begun-pos}
 

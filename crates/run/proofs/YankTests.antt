@@ -1,4 +1,4 @@
--- The names of a YANK line, one by one: 26 and 27 by the directory and the deck list, over the whole line, and the answer where one holds.
+-- The names of a YANK line, one by one: 26 and 27 by the directory and the deck list, over the whole line.
 use Prim.Native.Nat.{ℕ, _+_}
 use mathlib.Core.Path.{_≡_, refl, sym, ap, ap₂, _∙_, subst}
 use mathlib.Core.Bool.{Bool, true, false, _||_, not}
@@ -6,22 +6,22 @@ use mathlib.Core.List.{List}
 use lib.Dec.{eqb}
 use lib.ListN.{length, take}
 use Rattle.words.specs.Base.{any, member}
-use Rattle.lines.specs.Directive.{directive, field, yankNames}
-use Rattle.lines.specs.Reading.{nextName}
-use Rattle.lines.specs.declared.Line.the-variants.{Yank as YankLine}
-use Rattle.lines.specs.declared.NameStep.the-variants.{Name, End}
-use Rattle.lines.proofs.Walking.{namesFrom, names-more, names-none, yank-names}
+use Rattle.words_lines.specs.Directive.{directive, field, yankNames}
+use Rattle.words_lines.specs.Reading.{nextName}
+use Rattle.words_lines.specs.declared.Line.the-variants.{Yank as YankLine}
+use Rattle.words_lines.specs.declared.NameStep.the-variants.{Name, End}
+use Rattle.words_lines.proofs.FieldNames.{namesFrom, names-more, names-none, yank-names}
 use Rattle.library.specs.Library.{Library, reserved, entryOf}
-use Rattle.corrections.specs.Step.{State, Step, refused, refuse, limited, isSet, isUnknown, isNoSet, afterYank, obey, step}
+use Rattle.run_meaning.specs.Step.{State, Step, refused, refuse, limited, isSet, isUnknown, isNoSet, afterYank, obey, step}
 use Rattle.run.specs.Desk.{Tables, Held, Answered}
 use Rattle.run.specs.Resettled.{YankSteps}
 use Rattle.run.specs.YankNames.{namesIn, unknownIn, noSetIn, Settling, PutsYank}
 use Rattle.run.specs.declared.desk.Desk.{Desk}
 use Rattle.run.specs.declared.desk.Stepped.{Stepped}
 use Rattle.run.specs.declared.desk.Stepped.the-variants.{Refused as SteppedOff}
-use Rattle.corrections.specs.declared.Why.{Why}
-use Rattle.corrections.specs.declared.Why.the-variants.{Nowhere, Unknown, NoSet}
-use Rattle.corrections.proofs.FlatFind.{eqb-yes, eqb-no}
+use Rattle.run_meaning.specs.declared.Why.{Why}
+use Rattle.run_meaning.specs.declared.Why.the-variants.{Nowhere, Unknown, NoSet}
+use Rattle.run_meaning.proofs.FlatFind.{eqb-yes, eqb-no}
 
 -- ONE NAME
 module _ (directory : List ℕ) (w : ℕ) where

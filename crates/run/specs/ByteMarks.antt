@@ -1,6 +1,6 @@
--- Bytes and cards added at the gap (01, "Directives": DELETE, RESTORE, and the cards that text lines add).
+-- CODE. Bytes and cards added at the gap (RULES, "Units", "Corrections"): by DELETE and RESTORE, and by text lines.
 --   one byte more         byteOf, withByte, lastWith, ByteAdded, Marks
---   the cards of a range  markAll, Passed, Passes, Ranged, MarksRange
+--   the cards of a range  markOne, markAll, Short, Passed, Passes, Ranged, MarksRange
 --   a new card            Puts
 use Prim.Native.Nat.{ℕ, _+_, _-_, _*_, _/_, _%_, _^_, _≤_, _<_}
 use mathlib.Core.Path.{_≡_}
@@ -13,7 +13,7 @@ use Rattle.words.specs.Text.{textWords}
 use Rattle.library.specs.Each.{Each}
 use Rattle.library.specs.Library.{Byte, Card}
 use Rattle.library.specs.Image.{cardWords, cardsWords}
-use Rattle.corrections.specs.Step.{mark}
+use Rattle.run_meaning.specs.Step.{marked}
 use Rattle.run.specs.CardHeads.{Fits, cardOf}
 use Rattle.run.specs.GapWords.{Parted, Put}
 use Rattle.run.specs.declared.gap.Gap.{Gap}
@@ -25,7 +25,7 @@ byteOf n on = record { number = n; activating = eqb on 1 }
 unfoldable pub withByte : Byte → Card → Card
 withByte x c = record { line = c .line; seq = c .seq; owner = c .owner; later = c .later ++ (x ∷ []) }
 
--- the last word of a history, with the byte x more: "three bytes from 53 down .. unused ones zero"
+-- the last word of a history, with the byte x more: in its first place that is zero, or in a word of its own
 unfoldable pub lastWith : ℕ → ℕ → List ℕ
 lastWith x l =
     if eqb (l % 2 ^ 18) 0
@@ -45,9 +45,9 @@ Marks w g n on v h =
     (yk : ℕ → Bool) (c : Card) (below rest : List ℕ) → Parted w g below (cardWords yk c ++ rest) → Fits c → yk n ≡ false
     → Put w (cardWords yk (withByte (byteOf n on) c)) below rest v h
 
--- DELETE (was 1), RESTORE (was 0): "each card in it that was active (for RESTORE, inactive) before the directive gets one byte of this set"
+-- DELETE (was 1), RESTORE (was 0): each card of a range that is active, or is not, as `was` says, gets one more byte, of set n
 abbrev pub markOne : (ℕ → Bool) → ℕ → ℕ → Card → Card
-markOne yk was n c = mark yk (eqb was 1) n c
+markOne yk was n c = marked yk (eqb was 1) n c
 
 unfoldable pub markAll : (ℕ → Bool) → ℕ → ℕ → List Card → List Card
 markAll yk was n cs = map (markOne yk was n) cs

@@ -1,4 +1,4 @@
--- A card's heads, the words of its history, and what is read of them (01, "Cards").
+-- CODE. A card's heads, the words of its history, and what is read of them (RULES, "Cards").
 --   of a card           ownByte, textOf, headWord, headsOf, headsLen, cardOf
 --   what fits           FitsByte, Fits
 --   read of its words   headLen, beyond, Sees, SeesAny, FullAny
@@ -16,7 +16,7 @@ use Rattle.library.specs.Yanks.{active}
 use Rattle.library.specs.Image.{bit, byteBits, headWords, cardWords}
 use Rattle.run.specs.declared.card.Seen.{Seen}
 
--- "The first byte names the card's owner and is activating"
+-- a card's first byte: its owner's, which switches it on
 abbrev pub ownByte : Card → Byte
 ownByte c = record { number = c .owner; activating = true }
 
@@ -38,7 +38,7 @@ headsOf yk c = headWords (active yk c) (length (textOf c)) (c .seq) (map (byteBi
 unfoldable pub headsLen : Card → ℕ
 headsLen c = length (headsOf (λ n. false) c)
 
--- WHAT FITS: the fields of 01's layout hold the numbers, and the history has at most 64 bytes
+-- WHAT FITS: the fields of the layout hold the numbers, and the history has at most 64 bytes
 abbrev pub FitsByte : Byte → Type 0
 FitsByte b = (0 < b .number) × (b .number < 2 ^ 16)
 
@@ -50,7 +50,7 @@ pub record Fits (c : Card) : Type 0 where
   pub later : Each FitsByte (c .later)
   pub short : length (c .later) ≤ 63
 
--- READ: the words up to the first one with bit 59, "set when no more history words follow"
+-- READ: the words up to and with the first that has bit 59, which is the last of a history
 unfoldable pub headLen : List ℕ → ℕ
 headLen [] = 0
 headLen (x ∷ xs) = if leb (2 ^ 59) x then 1 else suc (headLen xs)

@@ -1,4 +1,4 @@
--- Where a card stands among cards, and in their words (01, "Owner and sequence number identify a card").
+-- CODE. Where a card stands among cards, and in their words (RULES, "Cards"), by its owner and its sequence number.
 --   among cards   indexOf
 --   in words      namedAt, CardRun, Found, Finds
 use Prim.Native.Nat.{ℕ, suc, _+_, _/_, _%_, _^_}
@@ -11,14 +11,14 @@ use Rattle.words.specs.Base.{if_then_else_}
 use Rattle.library.specs.Each.{Each}
 use Rattle.library.specs.Library.{Card}
 use Rattle.library.specs.Image.{cardsWords}
-use Rattle.corrections.specs.Step.{isNamed}
+use Rattle.run_meaning.specs.Step.{isCardOf}
 use Rattle.run.specs.CardHeads.{Fits}
 use Rattle.run.specs.declared.seek.Place.{Place}
 
 -- how many cards stand ahead of the first with this owner and number: all of them where there is none
 unfoldable pub indexOf : ℕ → ℕ → List Card → ℕ
 indexOf o s [] = 0
-indexOf o s (c ∷ cs) = if isNamed o s c then 0 else suc (indexOf o s cs)
+indexOf o s (c ∷ cs) = if isCardOf o s c then 0 else suc (indexOf o s cs)
 
 -- the first word of a card has this number and this owner
 abbrev pub namedAt : List ℕ → ℕ → ℕ → ℕ → Bool

@@ -1,22 +1,22 @@
--- What the functions that obey a correction promise: for every state that is held, the step of the definitions.
---   a card sought    SoughtAs, SeeksCard
+-- CODE. What the functions that obey a correction promise: for every state that is held, the step of the definitions.
+--   a card sought    SoughtAt, SoughtAs, SeeksCard
 --   a deck card      titled
 --   INSERT, BEFORE   InsertSteps, BeforeSteps
-use Prim.Native.Nat.{ℕ, _<_}
+use Prim.Native.Nat.{ℕ}
 use mathlib.Core.Path.{_≡_}
 use mathlib.Core.Bool.{Bool, _&&_}
 use mathlib.Core.List.{List}
 use mathlib.Core.Option.{Option, none, some}
 use lib.Dec.{eqb}
 use lib.ListN.{length}
-use Rattle.lines.specs.Directive.{directive}
-use Rattle.lines.specs.declared.CardName.{CardName}
-use Rattle.lines.specs.declared.Line.the-variants.{Insert, Before}
+use Rattle.words_lines.specs.Directive.{directive}
+use Rattle.words_lines.specs.declared.CardName.{CardName}
+use Rattle.words_lines.specs.declared.Line.the-variants.{Insert, Before}
 use Rattle.library.specs.Library.{Card, Library, parts, stream, entryOf}
 use Rattle.library.specs.Yanks.{yanked}
-use Rattle.corrections.specs.Step.{State, Spot, isNamed, find, step}
-use Rattle.corrections.specs.Flat.{indexBy, Stood, flat}
-use Rattle.settling.specs.SettledBits.{flagged}
+use Rattle.run_meaning.specs.Step.{State, Spot, isCardOf, find, step}
+use Rattle.run_meaning.specs.Flat.{indexBy, Stood, flat}
+use Rattle.library_yanks_bits.specs.SettledBits.{flagged}
 use Rattle.run.specs.Work.{Stands}
 use Rattle.run.specs.Desk.{Held, Answered}
 use Rattle.run.specs.declared.gap.Gap.{Gap}
@@ -30,7 +30,7 @@ pub record SoughtAt (l : Library) (g : Gap) (cs1 cs2 : List Card) (r : CardName)
   pub index : flat l a ≡ f .index
   pub stands : Stands g (yanked l 0) cs1 cs2 (f .index) (f .at)
   pub own : f .own ≡ entryOf (l .directory) (r .name)
-  pub first : f .index ≡ indexBy (isNamed (f .own) (r .seq)) (stream l)
+  pub first : f .index ≡ indexBy (isCardOf (f .own) (r .seq)) (stream l)
 
 abbrev pub SoughtAs : Library → Gap → List Card → List Card → CardName → Sought → Option Spot → Type 0
 SoughtAs l g cs1 cs2 r f none = f .index ≡ length (stream l)

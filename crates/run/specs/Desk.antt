@@ -1,12 +1,12 @@
--- The state of a run in code, a struct beside lent arrays, and the state of the definitions that it stands for.
+-- CODE. The state of a run in code, a struct beside lent arrays, and the state of the definitions that it stands for.
 --   31                   wordCount, fitTests, fitted
 --   the numbers          Sane, SaneAfter
 --   where text goes      movedDesk, TextGoes
 --   the relation         Tables, Held, HeldUnder
 --   a step               Answered
-use Prim.Native.Nat.{ℕ, suc, _+_, _-_, _≤_}
+use Prim.Native.Nat.{ℕ, _+_, _-_, _≤_}
 use mathlib.Core.Path.{_≡_}
-use mathlib.Core.Bool.{Bool, true, false}
+use mathlib.Core.Bool.{Bool}
 use mathlib.Core.List.{List, [], _∷_, _++_}
 use lib.Dec.{leb}
 use lib.ListN.{length, take}
@@ -14,12 +14,12 @@ use Rattle.words.specs.Base.{if_then_else_, allOf, member}
 use Rattle.library.specs.Library.{Card, Library, stream, deckNames}
 use Rattle.library.specs.Yanks.{yanked}
 use Rattle.library.specs.Image.{cardsWords}
-use Rattle.corrections.specs.Step.{TextPlace, nowhere, inYanks, inDeck, State, isSet, Step, went, refused}
-use Rattle.corrections.specs.Safe.{Safe}
+use Rattle.run_meaning.specs.Step.{TextPlace, nowhere, inYanks, inDeck, State, isSet, Step, went, refused}
+use Rattle.run_meaning.specs.Safe.{Safe}
 use Rattle.library.specs.Counts.{withinCounts}
-use Rattle.corrections.specs.Flat.{HasPlace, flatPlace, deckNumbers}
+use Rattle.run_meaning.specs.Flat.{HasPlace, flatPlace, deckNumbers}
 use Rattle.run.specs.GapWords.{Ordered}
-use Rattle.settling.specs.SettledBits.{flagged}
+use Rattle.library_yanks_bits.specs.SettledBits.{flagged}
 use Rattle.run.specs.Work.{Work}
 use Rattle.run.specs.declared.gap.Gap.{Gap}
 use Rattle.run.specs.declared.desk.Desk.{Desk}
@@ -27,8 +27,7 @@ use Rattle.run.specs.declared.desk.TextAt.{TextAt}
 use Rattle.run.specs.declared.desk.TextAt.the-variants.{Nowhere as TextNowhere, Yanks as TextYanks, Gap as TextGap}
 use Rattle.run.specs.declared.desk.Stepped.{Stepped}
 use Rattle.run.specs.declared.desk.Stepped.the-variants.{Went as SteppedOn, Refused as SteppedOff}
-use Rattle.corrections.specs.declared.Why.{Why}
-use Rattle.corrections.specs.declared.Why.the-variants.{Limit}
+use Rattle.run_meaning.specs.declared.Why.the-variants.{Limit}
 
 -- the words of the library: the header with YANK$$$ in the deck list, the tables, the cards on both sides of the gap
 abbrev pub wordCount : Desk → ℕ

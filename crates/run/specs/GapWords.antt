@@ -1,4 +1,4 @@
--- Words in an array with a gap: those below `lo`, and those from `hi` on.
+-- CODE. Words in an array with a gap: those below `lo`, and those from `hi` on.
 --   the two parts     Parted, Ordered
 --   words moved       Lowered, Raised, Moves
 --   words added       Put

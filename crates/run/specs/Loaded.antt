@@ -1,4 +1,4 @@
--- A library that the check accepted, taken up into the arrays of a run.
+-- CODE. A library that the check accepted, taken up into the arrays of a run.
 --   flags             NoFlags, listedNumbers, FlagsDecks
 --   the first deck    titledCard, Titled, FindsTitle
 --   the library       Loads
@@ -12,10 +12,10 @@ use Rattle.library.specs.Library.{Card, Library, entryOf}
 use Rattle.library.specs.Yanks.{yanked}
 use Rattle.library.specs.Image.{cardsWords}
 use Rattle.library.specs.Check.{good, check}
-use Rattle.corrections.specs.Step.{start}
+use Rattle.run_meaning.specs.Step.{start}
 use Rattle.run.specs.CardSeek.{CardRun}
-use Rattle.corrections.specs.Flat.{indexBy}
-use Rattle.settling.specs.SettledBits.{flagged}
+use Rattle.run_meaning.specs.Flat.{indexBy}
+use Rattle.library_yanks_bits.specs.SettledBits.{flagged}
 use Rattle.run.specs.Corrected.{titled}
 use Rattle.run.specs.Desk.{HeldUnder}
 use Rattle.run.specs.declared.desk.Desk.{Desk}

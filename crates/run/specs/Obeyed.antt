@@ -1,4 +1,4 @@
--- What the functions that obey a line promise: for every state that is held, the step of the definitions.
+-- CODE. What the functions that obey a line promise: for every state that is held, the step of the definitions.
 --   a new card    PutsLine
 --   text          TextSteps
 --   units         StaysSane, IdentSteps, asksDeck, DeckSteps
@@ -11,11 +11,11 @@ use lib.ListN.{length}
 use Rattle.words.specs.Base.{all}
 use Rattle.words.specs.Display.{inChart}
 use Rattle.words.specs.Text.{trim}
-use Rattle.lines.specs.Directive.{directive}
-use Rattle.lines.specs.declared.Line.{Line}
-use Rattle.lines.specs.declared.Line.the-variants.{Text, Ident, Deck as DeckLine·, Comdeck}
+use Rattle.words_lines.specs.Directive.{directive}
+use Rattle.words_lines.specs.declared.Line.{Line}
+use Rattle.words_lines.specs.declared.Line.the-variants.{Text, Ident, Deck as DeckLine·, Comdeck}
 use Rattle.library.specs.Library.{Card}
-use Rattle.corrections.specs.Step.{State, step}
+use Rattle.run_meaning.specs.Step.{State, step}
 use Rattle.run.specs.CardHeads.{cardOf}
 use Rattle.run.specs.Work.{Work, PutCard}
 use Rattle.run.specs.Desk.{Sane, SaneAfter, Held, Answered}

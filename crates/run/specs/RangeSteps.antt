@@ -1,4 +1,4 @@
--- What the functions that obey DELETE and RESTORE promise each other.
+-- CODE. What the functions that obey DELETE and RESTORE promise each other.
 --   deck cards in a range    isTitle, HasTitle
 --   the words of YANK$$$     LeadAfter
 --   YANK$$$ marked           Remarked, YankMarks
@@ -10,11 +10,11 @@ use mathlib.Core.List.{List, _++_}
 use lib.Dec.{T, eqb}
 use lib.ListN.{length, take}
 use Rattle.words.specs.Base.{any, all}
-use Rattle.lines.specs.declared.CardName.{CardName}
+use Rattle.words_lines.specs.declared.CardName.{CardName}
 use Rattle.library.specs.Library.{Card, stream}
 use Rattle.library.specs.Image.{cardsWords, shortHistory}
-use Rattle.corrections.specs.Step.{inYanks, State, isSet, refuse, limited, Spot, isBarred, afterMark, step}
-use Rattle.corrections.specs.Safe.{Safe}
+use Rattle.run_meaning.specs.Step.{inYanks, State, isSet, refuse, limited, Spot, isBarred, afterMark, step}
+use Rattle.run_meaning.specs.Safe.{Safe}
 use Rattle.run.specs.CardSeek.{CardRun}
 use Rattle.run.specs.Work.{Work}
 use Rattle.run.specs.Desk.{fitted, movedDesk, Tables, Held, Answered}
@@ -23,7 +23,7 @@ use Rattle.run.specs.declared.gap.Gap.{Gap}
 use Rattle.run.specs.declared.desk.Desk.{Desk}
 use Rattle.run.specs.declared.desk.Stepped.{Stepped}
 use Rattle.run.specs.declared.fixes.Sought.{Sought}
-use Rattle.corrections.specs.declared.Why.the-variants.{Barred}
+use Rattle.run_meaning.specs.declared.Why.the-variants.{Barred}
 
 -- a deck card, by its owner and number
 abbrev pub isTitle : List ℕ → Card → Bool

@@ -1,4 +1,4 @@
--- What the functions that change YANK$$$ promise: bits settled again, DELETE and RESTORE, YANK.
+-- CODE. What the functions that change YANK$$$ promise: bits settled again, DELETE and RESTORE, YANK.
 --   settling           Resettled
 --   DELETE, RESTORE    asksMark, MarkSteps
 --   YANK               YankSteps
@@ -8,11 +8,11 @@ use mathlib.Core.Path.{_≡_}
 use mathlib.Core.Bool.{Bool, true, false}
 use mathlib.Core.List.{List}
 use lib.Dec.{T, eqb}
-use Rattle.lines.specs.Directive.{directive}
-use Rattle.lines.specs.declared.CardName.{CardName}
-use Rattle.lines.specs.declared.Line.{Line}
-use Rattle.lines.specs.declared.Line.the-variants.{Text, Skipped, Deck as DeckLine·, Comdeck, Ident, Insert, Before, Delete, Restore, Yank as YankLine, Outside, Long, Malformed, NotCarried}
-use Rattle.corrections.specs.Step.{State, Step, step}
+use Rattle.words_lines.specs.Directive.{directive}
+use Rattle.words_lines.specs.declared.CardName.{CardName}
+use Rattle.words_lines.specs.declared.Line.{Line}
+use Rattle.words_lines.specs.declared.Line.the-variants.{Text, Skipped, Deck as DeckLine·, Comdeck, Ident, Insert, Before, Delete, Restore, Yank as YankLine, Outside, Long, Malformed, NotCarried}
+use Rattle.run_meaning.specs.Step.{State, Step, step}
 use Rattle.run.specs.Desk.{Held, HeldUnder, Answered}
 use Rattle.run.specs.declared.desk.Desk.{Desk}
 use Rattle.run.specs.declared.desk.Stepped.{Stepped}

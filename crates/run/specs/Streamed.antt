@@ -1,12 +1,12 @@
--- A whole stream in code (01, "Directives": "lines in order"), and the arrays that it is obeyed in.
+-- CODE. A whole stream in code (RULES, "The run"), line by line, and the arrays that it is obeyed in.
 --   the arrays       inArrays
 --   the lines        SaneEnd, EndedIn, ObeysStream
 use Prim.Native.Nat.{ℕ}
 use mathlib.Core.Path.{_≡_}
 use mathlib.Core.List.{List}
-use Rattle.lines.specs.Directive.{lines}
-use Rattle.corrections.specs.Step.{State}
-use Rattle.corrections.specs.Run.{Steps, ended, stopped, steps}
+use Rattle.words_lines.specs.Directive.{lines}
+use Rattle.run_meaning.specs.Step.{State}
+use Rattle.run_meaning.specs.Run.{Steps, ended, stopped, steps}
 use Rattle.run.specs.Desk.{Sane}
 use Rattle.run.specs.Resettled.{Arrays, HeldIn}
 use Rattle.run.specs.declared.desk.Desk.{Desk}

@@ -1,4 +1,4 @@
--- The library in work: its cards' words in one array, parted by a gap, and what each operation makes of it.
+-- CODE. The library in work: its cards' words in one array, parted by a gap, and what each operation makes of it.
 --   the library in work     Work
 --   finding a card          Stands, Located, Locates
 --   placing the gap         OpensAfter, OpensAhead, OpensAt
@@ -44,12 +44,12 @@ pub record Located (w : List ℕ) (g : Gap) (yk : ℕ → Bool) (cs1 cs2 : List 
   pub found : r .index < length (cs1 ++ cs2) → r .at < length w
   pub missing : length (cs1 ++ cs2) ≤ r .index → r .at ≡ length w
 
--- where so many stand below the gap, and "no two cards share both"
+-- where so many stand below the gap, and no card has both owner and number of another
 abbrev pub Locates : List ℕ → Gap → ℕ → ℕ → ℕ → Place → Type 0
 Locates w g low o s r =
     (yk : ℕ → Bool) (cs1 cs2 : List Card) → Work w g yk cs1 cs2 → low ≡ length cs1 → T (noTwo sameCard (cs1 ++ cs2)) → Located w g yk cs1 cs2 o s r
 
--- PLACING THE GAP: "INSERT: text goes directly after the card", "BEFORE: directly ahead of it"
+-- PLACING THE GAP: after a card, for INSERT; ahead of one, for BEFORE
 abbrev pub OpensAfter : List ℕ → Gap → ℕ → List ℕ → Gap → Type 0
 OpensAfter w g at v h =
     (yk : ℕ → Bool) (cs1 cs2 : List Card) (i : ℕ) → Work w g yk cs1 cs2 → Stands g yk cs1 cs2 i at → i < length (cs1 ++ cs2)
@@ -78,7 +78,7 @@ PutsCard w g text seq n v h =
     → PutCard w yk cs1 cs2 (cardOf line seq n) v h
 
 -- DELETE, RESTORE over the cards from the gap up to the one named: they are marked and stand below the gap.
--- 31 of a range: "over 64 bytes", and more words than the array has
+-- 31 of a range: a history of more than 64 bytes, or more words than the array has
 abbrev pub within : ℕ → (ℕ → Bool) → List Card → List Card → List Card → Bool
 within room yk cs1 marked cs3 = all shortHistory marked && leb (length (cardsWords yk (cs1 ++ marked)) + length (cardsWords yk cs3)) room
 

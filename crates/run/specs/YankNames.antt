@@ -1,4 +1,4 @@
--- What the parts of YANK promise: the tests of its names by the lists as they are lent, and its card under the flags of before.
+-- CODE. What the parts of YANK promise: the tests of its names by the lists as they are lent, and its card under the flags of before.
 --   names        namesIn, unknownIn, noSetIn
 --   the card     LeadAfter, Settling, PutsYank
 use Prim.Native.Nat.{ℕ, _≤_}
@@ -8,11 +8,11 @@ use mathlib.Core.List.{List, map}
 use lib.Dec.{eqb}
 use lib.ListN.{length}
 use Rattle.words.specs.Base.{member}
-use Rattle.words.specs.Names.{wordOfName}
-use Rattle.lines.specs.Directive.{directive, params}
-use Rattle.lines.specs.declared.Line.the-variants.{Yank as YankLine}
+use Rattle.words.specs.Spelt.{wordOfName}
+use Rattle.words_lines.specs.Directive.{directive, params}
+use Rattle.words_lines.specs.declared.Line.the-variants.{Yank as YankLine}
 use Rattle.library.specs.Library.{reserved, entryOf}
-use Rattle.corrections.specs.Step.{State, limited, afterYank, step}
+use Rattle.run_meaning.specs.Step.{State, limited, afterYank, step}
 use Rattle.run.specs.Desk.{Held, Answered}
 use Rattle.run.specs.Resettled.{Resettled}
 use Rattle.run.specs.declared.desk.Desk.{Desk}

@@ -1,7 +1,7 @@
-// A card's heads, the words of its history, as they stand in an array (01, "Cards").
+// A card's heads, the words of its history, as they stand in an array (RULES, "Cards").
 ghost use mathlib.Core.Path.{_≡_};
-ghost use mathlib.Core.Bool.{Bool, true, false};
-ghost use Prim.Native.Nat.{ℕ, _+_, _-_, _*_, _/_, _%_, _^_, _≤_, _<_};
+ghost use mathlib.Core.Bool.{true, false};
+ghost use Prim.Native.Nat.{_+_, _-_, _*_, _/_, _%_, _^_, _≤_, _<_};
 ghost use lib.ListN.{length, drop};
 ghost use Rattle.run.specs.CardHeads.{headLen, beyond, SeesAny, FullAny};
 
@@ -11,7 +11,7 @@ pub(crate) const FIELD: u64 = 262144;
 pub(crate) const UPPER: u64 = 68719476736;
 // Bit 58, activity.
 pub(crate) const ACTIVE: u64 = 288230376151711744;
-// Bit 59, set when no more history words follow.
+// Bit 59, in the last word of a history.
 pub(crate) const LAST: u64 = 576460752303423488;
 // Directory numbers, bits 15-00 of a byte, end below this, which is its bit 16, activating.
 pub(crate) const ACTIVATING: u64 = 65536;

@@ -1,4 +1,4 @@
-// The library in work written out (01, "Header", "Directory", "Deck list", "Cards").
+// The library in work written out (RULES, "Header", "Directory", "Deck list", "Cards").
 ghost use mathlib.Core.Path.{_≡_};
 ghost use Prim.Native.Nat.{_<_};
 ghost use lib.ListN.{length};
@@ -7,8 +7,8 @@ ghost use Rattle.run.specs.Written.{Finishes};
 use crate::desk::AHEAD;
 use crate::desk::Desk;
 use crate::desk::ROOM;
-use corrections::Ran;
-use corrections::Why;
+use run_meaning::Ran;
+use run_meaning::Why;
 
 // 32, and the library written where the space has room.
 pub(crate) fn finish(w: &[u64], dir: &[u64], names: &[u64], d: Desk, space: &mut [u64]) -> Ran
@@ -21,7 +21,7 @@ pub(crate) fn finish(w: &[u64], dir: &[u64], names: &[u64], d: Desk, space: &mut
     let lo = g.lo;
     let hi = g.hi;
     let total = AHEAD + n + d.decks + lo + (ROOM - hi);
-    if store::write_library(&dir[..n], &names[..k], &w[..lo], &w[hi..], space) {
+    if library_store::write_library(&dir[..n], &names[..k], &w[..lo], &w[hi..], space) {
         return Ran::Done(total);
     }
     Ran::Refused(Why::Space, 0)

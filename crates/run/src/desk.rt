@@ -3,7 +3,7 @@ ghost use mathlib.Core.Path.{_≡_};
 ghost use Prim.Native.Nat.{_≤_};
 ghost use Rattle.run.specs.Desk.{movedDesk, fitted};
 use crate::gap::Gap;
-use corrections::Why;
+use run_meaning::Why;
 
 // Where a text line goes.
 pub(crate) enum TextAt {

@@ -1,4 +1,4 @@
-// Corrections of a set (01, "Directives": INSERT, BEFORE).
+// INSERT and BEFORE (RULES, "Corrections").
 ghost use mathlib.Core.Path.{_≡_};
 ghost use Prim.Native.Nat.{_≤_, _<_};
 ghost use lib.ListN.{length};
@@ -11,8 +11,8 @@ use crate::gap::open_after;
 use crate::gap::open_ahead;
 use crate::seek::locate;
 use crate::starts::entry_of;
-use corrections::Why;
-use lines::CardName;
+use run_meaning::Why;
+use words_lines::CardName;
 
 // A card as it was sought: its owner's number, the word it begins at, and its index in the stream; the count of cards where there is none.
 pub(crate) struct Sought {
@@ -44,7 +44,7 @@ pub(crate) fn seek_card(w: &[u64], dir: &[u64], d: Desk, r: CardName) -> Sought
     }
 }
 
-// INSERT: the gap goes directly after the card.
+// INSERT: the gap is placed after the card.
 pub(crate) fn insert_step(w: &mut [u64], dir: &[u64], d: Desk, r: CardName) -> Stepped
     requires { ⌜ Sane (now w) d × (length (now dir) ≡ 1024) ⌝ }
     ensures { λ e. ⌜ SaneAfter (now (w .exit)) e ⌝ }

@@ -1,6 +1,5 @@
 // The gap of the library in work: moving it, and placing it at a card.
-ghost use mathlib.Core.Path.{_≡_};
-ghost use Prim.Native.Nat.{ℕ, _+_, _-_, _≤_, _<_};
+ghost use Prim.Native.Nat.{_+_, _-_, _≤_, _<_};
 ghost use lib.ListN.{length};
 ghost use Rattle.run.specs.GapWords.{Ordered, Lowered, Raised, Moves};
 ghost use Rattle.run.specs.Work.{OpensAfter, OpensAhead, OpensAt};

@@ -17,14 +17,14 @@ mod streams;
 mod texts;
 mod yanks;
 
-pub use corrections::Ran;
-pub use corrections::Why;
-pub use corrections::ran_number;
-pub use corrections::ran_value;
-pub use corrections::why_number;
+pub use run_meaning::Ran;
+pub use run_meaning::Why;
+pub use run_meaning::ran_number;
+pub use run_meaning::ran_value;
+pub use run_meaning::why_number;
 ghost use mathlib.Core.Path.{_≡_};
 ghost use lib.ListN.{length};
-ghost use Rattle.corrections.specs.Run.{running, ran, runInto};
+ghost use Rattle.run_meaning.specs.Run.{running, ran, runInto};
 use crate::runs::run_stream;
 use library::Checked;
 
@@ -33,7 +33,7 @@ pub fn run(old: &[u64], stream: &[u8], space: &mut [u64]) -> Ran
     ensures answer { λ r. ⌜ r ≡ ran (running (now (old .entry)) (now (stream .entry)) (length (now (space .entry)))) ⌝ }
     ensures { λ _. ⌜ now (space .exit) ≡ runInto (running (now (old .entry)) (now (stream .entry)) (length (now (space .entry)))) (now (space .entry)) ⌝ }
 {
-    match checks::check(old) {
+    match library_check::check(old) {
         Checked::Refused(f, p) => Ran::Library(f, p),
         Checked::Sound => run_stream(old, stream, space),
     }

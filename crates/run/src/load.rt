@@ -72,9 +72,9 @@ fn load_words(old: &[u64], n: usize, k: usize, w: &mut [u64], dir: &mut [u64], n
 {
     let at = 2 + n;
     let end = at + k;
-    store::copy(dir, &old[2..at]);
-    store::copy(names, &old[at..end]);
-    store::copy(w, &old[end..]);
+    library_store::copy(dir, &old[2..at]);
+    library_store::copy(names, &old[at..end]);
+    library_store::copy(w, &old[end..]);
 }
 
 // The library in work at the start of a run: the gap is behind the cards, no unit has begun, and text goes nowhere.

@@ -1,6 +1,5 @@
-// DELETE and RESTORE: history bytes added to the cards of a range (01, "Directives").
-ghost use mathlib.Core.Path.{_≡_};
-ghost use Prim.Native.Nat.{ℕ, _+_, _≤_, _<_};
+// DELETE and RESTORE: history bytes added to the cards of a range (RULES, "Corrections").
+ghost use Prim.Native.Nat.{_+_, _≤_, _<_};
 ghost use lib.ListN.{length};
 ghost use Rattle.run.specs.GapWords.{Ordered};
 ghost use Rattle.run.specs.ByteMarks.{ByteAdded, Marks, Passes, MarksRange};

@@ -1,6 +1,6 @@
-// One line of a stream (01, "Directives"): what it asks is done, or it is refused.
+// One line of a stream (RULES, "The run"): what it asks is done, or it is refused.
 ghost use mathlib.Core.Path.{_≡_};
-ghost use Prim.Native.Nat.{_≤_, _<_};
+ghost use Prim.Native.Nat.{_<_};
 ghost use lib.ListN.{length};
 ghost use Rattle.run.specs.Desk.{Sane, SaneAfter};
 ghost use Rattle.run.specs.Streamed.{inArrays};
@@ -14,8 +14,8 @@ use crate::starts::deck_step;
 use crate::starts::ident_step;
 use crate::texts::text_step;
 use crate::yanks::yank_step;
-use corrections::Why;
-use lines::Line;
+use run_meaning::Why;
+use words_lines::Line;
 
 // A correction, or a line that is refused for what it is: of the arrays only the cards' words and the flags change.
 fn correct_line(
@@ -58,7 +58,7 @@ pub(crate) fn obey_line(
     ensures { λ r. ⌜ SaneAfter (now (w .exit)) r ⌝ }
     ensures { λ r. ⌜ ObeysLine (inArrays (now (w .entry)) (now (dir .entry)) (now (names .entry)) (now (decks .entry)) (now (flags .entry))) d (now (line .entry)) (inArrays (now (w .exit)) (now (dir .exit)) (now (names .exit)) (now (decks .exit)) (now (flags .exit))) r ⌝ }
 {
-    let asked = directives::directive(line);
+    let asked = words_lines_asked::directive(line);
     match asked {
         Line::Text => text_step(w, d, line),
         Line::Skipped => Stepped::Went(d),

@@ -1,4 +1,4 @@
-// A new card at the gap (01, "Directives").
+// A new card at the gap (RULES, "Units").
 ghost use Prim.Native.Nat.{_≤_, _<_};
 ghost use lib.ListN.{length, take};
 ghost use Rattle.run.specs.GapWords.{Ordered};
@@ -25,7 +25,7 @@ pub(crate) fn put_card(w: &mut [u64], g: Gap, text: &[u64], k: usize, seq: u64, 
         };
     }
     w[lo] = LAST + ACTIVE + k as u64 * UPPER + seq * FIELD + ACTIVATING + n;
-    store::copy(&mut w[lo + 1..lo + 1 + k], &text[..k]);
+    library_store::copy(&mut w[lo + 1..lo + 1 + k], &text[..k]);
     Gap {
         lo: lo + 1 + k,
         hi: hi,

@@ -1,4 +1,4 @@
-// DELETE and RESTORE (01, "Directives"): the range is sought, tested for deck cards, and marked; where it is in YANK$$$, all bits are settled again.
+// DELETE and RESTORE (RULES, "Corrections"): the range is sought, tested for deck cards, and marked; where it is in YANK$$$, all bits are settled again.
 ghost use mathlib.Core.Path.{_≡_};
 ghost use Prim.Native.Nat.{_≤_, _<_};
 ghost use lib.ListN.{length};
@@ -22,8 +22,8 @@ use crate::gap::open_at;
 use crate::marks::Marked;
 use crate::marks::mark_to;
 use crate::yanks::resettle;
-use corrections::Why;
-use lines::CardName;
+use run_meaning::Why;
+use words_lines::CardName;
 
 // Whether one of the n cards from `from` on is a deck card.
 fn has_title(w: &[u64], decks: &[u64], from: usize, n: usize) -> bool

@@ -1,4 +1,4 @@
-// A run on a library that the check accepted (01, "Numbers of the answers": 19, the lines in order, 32 last).
+// A run on a library that the check accepted (RULES, "The run"): 19, then line by line, then 32.
 ghost use Prim.Native.Nat.{_≤_};
 ghost use lib.ListN.{length};
 ghost use Rattle.library.specs.Readable.{Readable};
@@ -8,8 +8,8 @@ use crate::load::load;
 use crate::streams::Ended;
 use crate::streams::obey_stream;
 use crate::yanks::resettle;
-use corrections::Ran;
-use corrections::Why;
+use run_meaning::Ran;
+use run_meaning::Why;
 
 // The longest stream, in bytes.
 const STREAM: usize = 262144;

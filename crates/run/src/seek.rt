@@ -1,6 +1,6 @@
 // Finding a card of the library in work by its owner and number.
 ghost use mathlib.Core.Path.{_≡_};
-ghost use Prim.Native.Nat.{ℕ, _+_, _≤_, _<_};
+ghost use Prim.Native.Nat.{_+_, _≤_, _<_};
 ghost use lib.ListN.{length};
 ghost use Rattle.run.specs.CardSeek.{namedAt, Finds};
 ghost use Rattle.run.specs.GapWords.{Ordered};

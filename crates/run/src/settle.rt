@@ -1,7 +1,7 @@
-// All bits settled again for new flags (01, "When a card is active").
+// All bits settled again for new flags (RULES, "When a card is active").
 ghost use mathlib.Core.Path.{_≡_};
 ghost use mathlib.Core.Bool.{false};
-ghost use Rattle.settling.specs.SettledBits.{flagged};
+ghost use Rattle.library_yanks_bits.specs.SettledBits.{flagged};
 ghost use Rattle.run.specs.GapWords.{Ordered};
 ghost use Rattle.run.specs.Work.{Resettles};
 use crate::gap::Gap;
@@ -13,6 +13,6 @@ pub(crate) fn settle_all(w: &mut [u64], g: Gap, f: &[u64])
 {
     let lo = g.lo;
     let hi = g.hi;
-    settling::settle_bits(&mut w[..lo], f);
-    settling::settle_bits(&mut w[hi..], f);
+    library_yanks_bits::settle_bits(&mut w[..lo], f);
+    library_yanks_bits::settle_bits(&mut w[hi..], f);
 }

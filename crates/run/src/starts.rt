@@ -1,4 +1,4 @@
-// Units (01, "Directives": DECK, COMDECK or IDENT, which adds the name to the directory's end).
+// The starts of units (RULES, "Units"): DECK, COMDECK and IDENT.
 ghost use mathlib.Core.Path.{_≡_};
 ghost use Prim.Native.Nat.{_≤_, _<_};
 ghost use lib.ListN.{length, take};
@@ -12,7 +12,7 @@ use crate::desk::TextAt;
 use crate::desk::limited;
 use crate::gap::open_ahead;
 use crate::texts::put_line;
-use corrections::Why;
+use run_meaning::Why;
 
 // The number of a name among the first n of the directory; 0 where it is not there.
 pub(crate) fn entry_of(dir: &[u64], n: usize, w: u64) -> usize

@@ -1,4 +1,4 @@
-// The lines of a stream, one after another (01, "Directives").
+// The lines of a stream, one after another (RULES, "The run").
 ghost use mathlib.Core.Path.{_≡_};
 ghost use Prim.Native.Nat.{_≤_, _<_};
 ghost use lib.ListN.{length};
@@ -7,7 +7,7 @@ ghost use Rattle.run.specs.Streamed.{inArrays, SaneEnd, ObeysStream};
 use crate::desk::Desk;
 use crate::desk::Stepped;
 use crate::obey::obey_line;
-use corrections::Why;
+use run_meaning::Why;
 
 // All lines obeyed; or why one is refused, and its number.
 pub(crate) enum Ended {
@@ -32,8 +32,8 @@ pub(crate) fn obey_stream(
     let mut at: usize = 0;
     let mut n: usize = 1;
     while at < stream.len() {
-        let line = lines::line_at(stream, at);
-        let next = corrections::line_after(at, line);
+        let line = words_lines::line_at(stream, at);
+        let next = run_meaning::line_after(at, line);
         let r = obey_line(w, dir, names, decks, flags, d, line);
         match r {
             Stepped::Refused(y) => {

@@ -1,4 +1,4 @@
-// Text lines (01, "Directives"): each adds one card at the gap.
+// Text lines (RULES, "Units"): each adds one card at the gap.
 ghost use Prim.Native.Nat.{_≤_, _<_};
 ghost use lib.ListN.{length};
 ghost use Rattle.run.specs.GapWords.{Ordered};
@@ -10,8 +10,8 @@ use crate::desk::TextAt;
 use crate::desk::limited;
 use crate::gap::Gap;
 use crate::put::put_card;
-use compressing::Compressed;
-use corrections::Why;
+use run_meaning::Why;
+use words_text_compress::Compressed;
 
 // A new card at the gap with the line's text. Where its words do not fit, lo passes hi.
 pub(crate) fn put_line(w: &mut [u64], g: Gap, line: &[u8], seq: u64, n: u64) -> Gap
@@ -20,7 +20,7 @@ pub(crate) fn put_line(w: &mut [u64], g: Gap, line: &[u8], seq: u64, n: u64) -> 
     ensures { λ r. ⌜ PutsLine (now (w .entry)) g (now (line .entry)) seq n (now (w .exit)) r ⌝ }
 {
     let mut text = [0u64; 16];
-    let c = compressing::compress(line, &mut text);
+    let c = words_text_compress::compress(line, &mut text);
     match c {
         Compressed::Words(k) => put_card(w, g, &text, k, seq, n),
         Compressed::Outside => g,
@@ -40,7 +40,7 @@ pub(crate) fn text_step(w: &mut [u64], d: Desk, line: &[u8]) -> Stepped
         TextAt::Nowhere => Stepped::Refused(Why::Nowhere),
         TextAt::Yanks => Stepped::Refused(Why::Barred),
         TextAt::Gap => {
-            let next = corrections::number_after(d.next);
+            let next = run_meaning::number_after(d.next);
             let h = put_line(w, g, line, d.next, d.entries as u64);
             limited(Desk {
                 gap: h,

@@ -1,4 +1,4 @@
-// YANK (01, "Directives": "the line becomes a card of this set at the end of YANK$$$"), and the bits that change with YANK$$$.
+// YANK (RULES, "Corrections"): its line becomes the last card of YANK$$$; and the bits that change with YANK$$$.
 ghost use mathlib.Core.Path.{_≡_};
 ghost use Prim.Native.Nat.{_+_, _≤_, _<_};
 ghost use lib.ListN.{length, take};
@@ -15,8 +15,8 @@ use crate::settle::settle_all;
 use crate::starts::entry_of;
 use crate::starts::is_unknown;
 use crate::texts::put_line;
-use corrections::Why;
-use lines::NameStep;
+use run_meaning::Why;
+use words_lines::NameStep;
 
 // Whether w stands among the first n words of a list.
 fn stands(list: &[u64], n: usize, w: u64) -> bool
@@ -51,7 +51,7 @@ fn any_unknown(dir: &[u64], n: usize, field: &[u8]) -> bool
 {
     let mut at = 0;
     loop {
-        match directives::next_name(field, at) {
+        match words_lines_asked::next_name(field, at) {
             NameStep::Name { word, next } => {
                 if is_unknown(dir, n, word) {
                     return true;
@@ -70,7 +70,7 @@ fn any_no_set(dir: &[u64], n: usize, names: &[u64], k: usize, field: &[u8]) -> b
 {
     let mut at = 0;
     loop {
-        match directives::next_name(field, at) {
+        match words_lines_asked::next_name(field, at) {
             NameStep::Name { word, next } => {
                 if is_no_set(dir, n, names, k, word) {
                     return true;
@@ -92,7 +92,7 @@ fn put_yank(w: &mut [u64], d: Desk, line: &[u8]) -> Stepped
     if w.len() < d.lead {
         return Stepped::Refused(Why::Limit);
     }
-    let next = corrections::number_after(d.next);
+    let next = run_meaning::number_after(d.next);
     let g = d.gap;
     let m = open_at(w, g, d.lead);
     let h = put_line(w, m, line, d.next, d.entries as u64);
@@ -117,7 +117,7 @@ pub(crate) fn resettle(w: &mut [u64], dir: &[u64], flags: &mut [u64], d: Desk)
 {
     let n = d.entries;
     let lead = d.lead;
-    yanked::settle(&dir[..n], &w[..lead], flags);
+    library_yanks::settle(&dir[..n], &w[..lead], flags);
     flags[0] = 0;
     let g = d.gap;
     settle_all(w, g, flags);
@@ -141,7 +141,7 @@ pub(crate) fn yank_step(
     }
     let n = d.entries;
     let k = d.decks + 1;
-    let field = lines::field_of(line);
+    let field = words_lines::field_of(line);
     if any_unknown(dir, n, field) {
         return Stepped::Refused(Why::Unknown);
     }

@@ -1,4 +1,4 @@
--- Names go to words and back, and numbers to digits and back: `specs/NameTrip.antt`, proved. Assumes nothing.
+-- Names go to words and back, and numbers to digits and back. Assumes nothing.
 use Prim.Native.Nat.{ℕ, zero, suc, _+_, _-_, _*_, _/_, _%_, _^_, _≤_, _<_}
 use native.Mathlib.Omega.{arith}
 use native.Mathlib.Nat.{pow-suc}
@@ -13,11 +13,11 @@ use Rattle.words.specs.Display.{codeOf, inChart, letter}
 use Rattle.words.specs.Text.{lowCodes}
 use Rattle.words.specs.Names.{isNameByte, isName, packCodes, nameWord, nameOf, isNameWord, isDigit, decimal, digits, numeral}
 use Rattle.words.specs.NameTrip.{NameOfWord, WordOfNameIsOne, WordOfItsName, ReadOfWritten}
-use Rattle.words.proofs.Tests.{T-true, true-T, and-left, and-right, and-both}
-use Rattle.words.proofs.Tens.{low-one, low-shift, low-cong}
+use Rattle.words.proofs.TestParts.{T-true, true-T, and-left, and-right, and-both}
+use Rattle.words.proofs.TenCodes.{low-one, low-shift, low-cong}
 use Rattle.words.proofs.TextTrip.{letters-line}
-use Rattle.words.proofs.Naming.{name-parts}
-use Rattle.words.proofs.Numbering.{digit-good, read-good}
+use Rattle.words.proofs.NameWord.{name-parts}
+use Rattle.words.proofs.DecimalDigits.{digit-good, read-good}
 
 -- NAMES
 byte-some : (b : ℕ) → T (isNameByte b) → 0 < codeOf b

@@ -1,4 +1,4 @@
--- Text goes to words and back: `specs/TextTrip.antt`, proved. Assumes nothing.
+-- Text goes to words and back. Assumes nothing.
 use Prim.Native.Nat.{ℕ, zero, suc, _*_, _≤_, _<_}
 use native.Mathlib.Omega.{arith}
 use native.Mathlib.Decide.{decLt}
@@ -11,11 +11,11 @@ use Rattle.words.specs.Base.{all, same}
 use Rattle.words.specs.Display.{codeOf, inChart, letter}
 use Rattle.words.specs.Text.{trim, compress, wordsOf, columnsOf, allCodes, textWords, says, isText}
 use Rattle.words.specs.TextTrip.{LetterOfCode, CodeOfLetter, SaysWritten, WrittenIsText, WrittenFits, TrimmedTheSame, WrittenSays}
-use Rattle.words.proofs.Tests.{T-true, true-T, and-left, and-right, and-both, same-refl, same-eq}
-use Rattle.words.proofs.Charted.{code-letter, letter-code, letter-outside, blank-in}
-use Rattle.words.proofs.Trimming.{length-trim, all-trim, trim-trim, well-trim}
-use Rattle.words.proofs.Compressing.{isCode, columns-compress, length-compress, codes-compress}
-use Rattle.words.proofs.Tens.{words-back, length-words}
+use Rattle.words.proofs.TestParts.{T-true, true-T, and-left, and-right, and-both, same-refl, same-eq}
+use Rattle.words.proofs.ChartBothWays.{code-letter, letter-code, letter-outside, blank-in}
+use Rattle.words.proofs.TrimmedLine.{length-trim, all-trim, trim-trim, well-trim}
+use Rattle.words.proofs.CompressedLine.{isCode, columns-compress, length-compress, codes-compress}
+use Rattle.words.proofs.TenCodes.{words-back, length-words}
 
 pub letter-of-code : LetterOfCode
 letter-of-code b e = letter-code b (true-T (inChart b) e)

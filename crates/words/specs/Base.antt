@@ -1,10 +1,10 @@
--- Small words that the definitions are written in.
+-- MEANING. Small words that the definitions are written in.
 --   choice        if_then_else_
---   quoted text   bytes
---   lists         any, all, allOf, anyOf, member, same, isNil, first, placeFrom, aheadOf
+--   quoted text   bytes, byte
+--   lists         any, all, allOf, anyOf, member, same, isNil, placeFrom, aheadOf
 --   words         isWord
---   cutting       takeUntil, dropUntil, beyond, split
-use Prim.Native.Nat.{ℕ, zero, suc, _+_, _-_, _^_}
+--   cutting       takeUntil, dropUntil, beyond, into, split
+use Prim.Native.Nat.{ℕ, zero, suc, _-_, _^_}
 use Prim.Native.String.{String, len, charAt}
 use Prim.Native.Char.{code}
 use mathlib.Core.Bool.{Bool, true, false, _&&_, _||_}
@@ -25,6 +25,10 @@ bytesFrom s (suc k) = code (charAt s (len s - suc k)) ∷ bytesFrom s k
 
 abbrev pub bytes : String → List ℕ
 bytes s = bytesFrom s (len s)
+
+-- the byte of a quoted character
+abbrev pub byte : String → ℕ
+byte s = code (charAt s 0)
 
 abbrev pub any : {A : Type 0} → (A → Bool) → List A → Bool
 any p [] = false
@@ -87,6 +91,6 @@ abbrev pub aheadOf : ℕ → List ℕ → List ℕ
 aheadOf zero xs = []
 aheadOf (suc n) xs = getD xs n 0 ∷ aheadOf n xs
 
--- "A library is a run of 60-bit words, held one to a 64-bit number"
+-- a word has 60 bits: a number of 2^60 or more is none (RULES, "Words")
 abbrev pub isWord : ℕ → Bool
 isWord w = ltb w (2 ^ 60)

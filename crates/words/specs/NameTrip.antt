@@ -1,4 +1,4 @@
--- Names go to words and back, and numbers to digits and back (01, "Directory", "Directives").
+-- PROMISE. Names go to words and back, and numbers to digits and back (RULES, "Names and numbers").
 --   names      NameOfWord, WordOfNameIsOne, WordOfItsName
 --   numbers    ReadOfWritten
 use Prim.Native.Nat.{ℕ, _≤_, _<_}
@@ -19,6 +19,6 @@ WordOfNameIsOne = (n : List ℕ) → isName n ≡ true → isNameWord (nameWord 
 abbrev pub WordOfItsName : Type 0
 WordOfItsName = (w : ℕ) → isNameWord w ≡ true → nameWord (nameOf w) ≡ w
 
--- a number of 01's range is read back from its digits
+-- a number that a card may have is read back from its digits
 abbrev pub ReadOfWritten : Type 0
 ReadOfWritten = (n : ℕ) → 0 < n → n ≤ 262143 → numberRead (numeral n) ≡ n

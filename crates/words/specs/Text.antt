@@ -1,7 +1,7 @@
--- A line and the words it is written in (01, "Text"). A line is the list of its bytes, one to a column.
+-- MEANING. A line and the words it is written in (RULES, "Text"). A line is the list of its bytes, one to a column.
 --   without trailing blanks      trim
---   line to codes                blanks, squeeze, compress
---   codes to words and back      wordsOf, allCodes
+--   line to codes                gap, blanks, sign, squeeze, compress
+--   codes to words and back      wordsOf, lowCodes, allCodes
 --   line to words                textWords
 --   words to line                columnsOf, says, isText
 use Prim.Native.Nat.{ℕ, zero, suc, _+_, _-_, _*_, _/_, _%_, _^_}
@@ -12,7 +12,7 @@ use lib.ListN.{length, replicate}
 use Rattle.words.specs.Base.{if_then_else_, same, isNil}
 use Rattle.words.specs.Display.{codeOf, letter, blank}
 
--- "Trailing blanks are dropped"
+-- a line without the blanks at its end
 abbrev pub trim : List ℕ → List ℕ
 trim [] = []
 trim (x ∷ xs) = let r = trim xs in if eqb x blank && isNil r then [] else (x ∷ r)
@@ -22,7 +22,7 @@ trim (x ∷ xs) = let r = trim xs in if eqb x blank && isNil r then [] else (x �
 abbrev pub gap : ℕ
 gap = 0o55
 
--- a run of n blanks: "1 or 2 as 55s, 3 to 64 as 0002 to 0077, above 64 as 0077 and then the rest of the run by the same rule"
+-- a run of n blanks: 00 77 for 64 of them while more than 64 are left; then one or two are 55 each, and 3 to 64 are 00 and one less than their count
 abbrev pub shortRun : ℕ → List ℕ
 shortRun n = if ltb n 3 then replicate n gap else (0 ∷ (n - 1) ∷ [])
 
@@ -33,7 +33,7 @@ longRuns (suc k) r = 0 ∷ 0o77 ∷ longRuns k r
 unfoldable pub blanks : ℕ → List ℕ
 blanks n = let k = (n - 1) / 64 in longRuns k (shortRun (n - 64 * k))
 
--- a code as it is written: "A colon is written 0001"
+-- a code as it is written: the colon's, 0, as 00 01, any other as itself
 abbrev pub sign : ℕ → List ℕ → List ℕ
 sign zero r = 0 ∷ 1 ∷ r
 sign (suc c) r = suc c ∷ r
@@ -43,12 +43,12 @@ abbrev pub squeeze : ℕ → List ℕ → List ℕ
 squeeze n [] = []
 squeeze n (c ∷ cs) = if eqb c gap then squeeze (suc n) cs else (blanks n ++ sign c (squeeze 0 cs))
 
--- "A leading blank is 55. Any other run of blanks" is written as a run
+-- a blank in column 1 is 55 for itself; the blanks after it are a run of their own, like any others
 abbrev pub compress : List ℕ → List ℕ
 compress [] = []
 compress (c ∷ cs) = if eqb c gap then (gap ∷ squeeze 0 cs) else squeeze 0 (c ∷ cs)
 
--- CODES TO WORDS: ten codes to a word, zero fill; w is the word so far, with k of its places left
+-- CODES TO WORDS: ten in each, zeros after the last one; w is the word so far, with k of its places left
 abbrev pub fill : ℕ → ℕ → List ℕ → List ℕ
 fill w k [] = if eqb k 10 then [] else (w * 64 ^ k ∷ [])
 fill w zero (x ∷ xs) = w ∷ fill x 9 xs
@@ -70,22 +70,19 @@ allCodes (w ∷ ws) = lowCodes 10 w (allCodes ws)
 unfoldable pub textWords : List ℕ → List ℕ
 textWords l = wordsOf (compress (map codeOf (trim l)))
 
--- WORDS TO LINE: the columns that codes stand for. 0001 is a colon, 0002 to 0077 are 3 to 64 blanks, 0000 ends the line.
-abbrev pub pair : ℕ → List ℕ → List ℕ
-pair zero r = 0 ∷ r
-pair (suc y) r = replicate (y + 3) gap ++ r
-
+-- WORDS TO LINE: the columns that codes stand for. After a zero code, 01 makes a colon and each higher code one blank more than its number; two zero codes, or a last one, end the line.
 abbrev pub columnsOf : List ℕ → List ℕ
 columnsOf [] = []
 columnsOf (zero ∷ []) = []
 columnsOf (zero ∷ zero ∷ r) = []
-columnsOf (zero ∷ suc y ∷ r) = pair y (columnsOf r)
+columnsOf (zero ∷ suc zero ∷ r) = 0 ∷ columnsOf r
+columnsOf (zero ∷ suc (suc y) ∷ r) = replicate (1 + suc (suc y)) gap ++ columnsOf r
 columnsOf (suc c ∷ r) = suc c ∷ columnsOf r
 
 -- the line that words say, whether or not they are the words that it is written in
 unfoldable pub says : List ℕ → List ℕ
 says ws = map letter (columnsOf (allCodes ws))
 
--- row 6: "Only this encoding is accepted"
+-- row 6: words are text where the line that they say has at most 80 columns, and is written in exactly these words
 unfoldable pub isText : List ℕ → Bool
 isText ws = leb (length (says ws)) 80 && same (textWords (says ws)) ws

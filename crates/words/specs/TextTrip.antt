@@ -1,4 +1,4 @@
--- Text goes to words and back, and words to text and back (01, "Text": "Only this encoding is accepted").
+-- PROMISE. Text goes to words and back, and words to text and back (RULES, "Text"): every line has one form, and no other is accepted.
 --   the chart      LetterOfCode, CodeOfLetter
 --   a line         SaysWritten, WrittenIsText, WrittenFits, TrimmedTheSame
 --   text           WrittenSays

@@ -1,4 +1,4 @@
-// Words of ten six-bit codes, the first code highest (01, "Text").
+// Words of ten six-bit codes, the first code highest (RULES, "Text").
 ghost use mathlib.Core.Path.{_≡_};
 ghost use Prim.Native.Nat.{_^_};
 ghost use lib.Dec.{ltb};

@@ -1,9 +1,9 @@
-// The display code (01, "Text"): a byte's code and a code's byte, each by the chart as it is printed, its codes in octal: the colon, the letters, the
+// The display code (RULES, "Text"): a byte's code and a code's byte, each by the chart as it is printed, its codes in octal: the colon, the letters, the
 // digits, the signs.
 ghost use mathlib.Core.Path.{_≡_};
 ghost use Rattle.words.specs.Display.{codeOf, letter};
 
-// how many codes there are, and the answer for a byte outside the character set
+// how many codes there are, and the answer for a byte that is no character
 const SET: u8 = 0o100;
 
 // as many, where a code is a place

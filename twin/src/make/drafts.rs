@@ -242,7 +242,7 @@ pub fn yank(random: &mut Random, library: &Library) -> Option<Vec<u8>> {
     Some(directive(random, YANK, &names))
 }
 
-/// 20: a line with a byte outside the character set, sometimes too long as well.
+/// 20: a line with a byte that is no character, sometimes too long as well.
 fn strange_line(random: &mut Random, run: &Run) -> Vec<u8> {
     let mut line = if random.chance(20) { long_line(random, run) } else { good_line(random, run) };
     let byte = match random.below(8) {
@@ -294,7 +294,7 @@ fn malformed(random: &mut Random, library: &Library) -> Vec<u8> {
     }
 }
 
-/// 23: a name of 000 that is not carried, or a second parameter of IDENT or COMDECK.
+/// 23: a name of UPDATE that is not carried, or a second parameter of IDENT or COMDECK.
 fn not_carried(random: &mut Random, library: &Library) -> Vec<u8> {
     let first = if random.chance(70) { new_name(random, library) } else { name(random) };
     match random.below(5) {
@@ -331,7 +331,7 @@ fn unknown_yank(random: &mut Random, library: &Library) -> Vec<u8> {
     directive(random, YANK, &names)
 }
 
-/// 27: a deck, YANK$$$ or the set itself.
+/// 27: the name of a deck, of YANK$$$ or of the set that yanks.
 fn barred_yank(random: &mut Random, library: &Library) -> Vec<u8> {
     let itself = library.directory.last().and_then(|entry| entry.name).map(|name| name.bytes());
     let deck = library.decks[random.below(library.decks.len())].name.bytes();
@@ -371,7 +371,7 @@ fn backwards(random: &mut Random, library: &Library) -> Vec<u8> {
     directive(random, spelling, &parameters)
 }
 
-/// 30: at or over a deck card, or at a card of YANK$$$.
+/// 30: a deck card, or a range with one, or a card of YANK$$$.
 fn barred_card(random: &mut Random, library: &Library) -> Vec<u8> {
     let decks = &library.decks;
     let in_yank_deck = random.one_of(&decks[0].cards);

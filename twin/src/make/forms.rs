@@ -9,7 +9,7 @@ use crate::library::Library;
 use crate::lines::{read, Line, NOT_CARRIED};
 use crate::text::{compress, Name, COLUMNS};
 
-/// Names that 01 carries, those skipped or kept as text, and near misses.
+/// Names that are carried, those skipped or kept as text, and near misses.
 const OTHER_NAMES: [&[u8]; 40] = [
     b"DECK", b"DK", b"COMDECK", b"CD", b"IDENT", b"ID", b"INSERT", b"I", b"BEFORE", b"B", b"DELETE", b"D", b"RESTORE", b"R",
     b"YANK", b"Y", b"CALL", b"CA", b"END", b"/", b"", b"DEC", b"DECKS", b"COMDEC", b"IDENTS", b"INSER", b"BEFOR", b"DELETED",

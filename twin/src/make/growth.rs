@@ -1,10 +1,10 @@
-//! Libraries grown towards a limit of 01, for merges that reach it or pass it.
+//! Libraries grown towards a limit, for merges that reach it or pass it.
 
 use super::limits::numbered;
 use crate::library::{Entry, Library, FRESH, MAX_CARDS, MAX_DECKS, MAX_NAMES, MAX_WORDS};
 use crate::lines::Kind;
 
-/// What 01 limits in a library, and row 31 in a merged one.
+/// What is limited in a library, and row 31 in a merged one.
 #[derive(Clone, Copy, Debug, PartialEq, Eq)]
 pub enum Limit {
     Names,

@@ -1,4 +1,4 @@
-//! Cases of the kind `limits`: each limit of 01 exactly, and one past it. Those of merges stand in `merge_limits`.
+//! Cases of the kind `limits`: each limit exactly, and one past it. Those of merges stand in `merge_limits`.
 
 use super::libraries::made_by;
 use super::merge_limits;
@@ -93,7 +93,7 @@ fn texts() -> Vec<Maker> {
     makers
 }
 
-/// Codes one past a limit: 81 columns, 17 words, and runs written in a way that is not 01's.
+/// Codes one past a limit: 81 columns, 17 words, and runs written in a way that is not the rules'.
 fn spoiled_codes() -> Vec<Vec<u8>> {
     vec![
         vec![1; COLUMNS + 1],

@@ -1,4 +1,4 @@
-//! Spoiled images: each row of 01's table from 1 to 10, two rows at once, and blind changes.
+//! Spoiled images: each row of the table from 1 to 10, two rows at once, and blind changes.
 
 use super::random::Random;
 use super::texts::{bad_parameter, directive, new_name, spoiled_text, text, DECK, YANK};

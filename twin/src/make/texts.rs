@@ -132,7 +132,7 @@ pub fn bad_parameter(random: &mut Random) -> Vec<u8> {
     random.pick(&bad).as_bytes().to_vec()
 }
 
-/// Words that are no text, from a text with one departure from 01's encoding.
+/// Words that are no text, from a text with one departure from the rules.
 pub fn spoiled_text(random: &mut Random) -> Vec<u64> {
     let mut codes: Vec<u8> = (0..random.within(1, 12)).map(|_| random.within(1, 63) as u8).collect();
     let middle = random.below(codes.len() + 1);

@@ -1,9 +1,9 @@
 -- What the check answers decides; an accepted image is compiled as its library.
-use Rattle.compile.proofs.Encoded.{compile-sound, compile-refused}
+use Rattle.compile.proofs.ImageView.{compile-sound, compile-refused}
 use borrow.Author.Needs.{needs}
 use Rattle.compile.proofs.compile.Statement.{statement}
 use Rattle.compile.proofs.compile.Tie as tie
-use Rattle.checks.proofs.check.Reads as check-reads
+use Rattle.library_check.proofs.check.Reads as check-reads
 
 check-requires : tie.Need-check-requires
 check-requires c κs = search needs

@@ -1,6 +1,6 @@
 -- Both passes follow the walk of the view; the first writes nothing.
-use Rattle.compile.proofs.Following.{table-halted, table-done, table-halted-again}
-use Rattle.walks.specs.TableView.{tableView}
+use Rattle.compile.proofs.WalkAsDefined.{table-halted, table-done, table-halted-again}
+use Rattle.compile_walk.specs.TableView.{tableView}
 use borrow.Author.Needs.{needs}
 use Rattle.compile.proofs.compile_chosen.Statement.{statement}
 use Rattle.compile.proofs.compile_chosen.Tie as tie

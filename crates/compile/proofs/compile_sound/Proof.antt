@@ -1,6 +1,6 @@
 -- The table of an accepted image stands for the view of its library.
-use Rattle.decks.proofs.Rows.{table-taken}
-use Rattle.compile.proofs.Encoded.{image-answers}
+use Rattle.library_image_decks.proofs.DeckRows.{table-taken}
+use Rattle.compile.proofs.ImageView.{image-answers}
 use lib.Seq.{length-take-le}
 use mathlib.Core.Path.{sym}
 use borrow.Author.Needs.{needs}

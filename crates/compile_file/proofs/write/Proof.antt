@@ -1,11 +1,10 @@
 -- What is written lies within the space. Assumes nothing.
-use Prim.Native.Nat.{_≤_}
 use mathlib.Core.Path.{sym}
 use borrow.Author.Needs.{needs}
-use lib.ListN.{length, replicate}
+use lib.ListN.{replicate}
 use lib.Seq.{length-take-le}
 use Rattle.compile.specs.Compile.{program}
-use Rattle.program.proofs.Texts.{wrote-few}
+use Rattle.compile_file.proofs.RefusalLine.{wrote-few}
 use Rattle.compile_file.proofs.write.Statement.{statement}
 use Rattle.compile_file.proofs.write.Tie as tie
 

@@ -1,6 +1,6 @@
 -- The directory is shown by the proved function; its answer gives the number and the value.
 use mathlib.Core.Path.{ap, _∙_}
-use Rattle.naming.specs.Naming.{toldNumber, toldValue}
+use Rattle.keeper_card.specs.Naming.{toldNumber, toldValue}
 use borrow.Author.Needs.{needs}
 use Rattle.face.proofs.galdwist_directory.Statement.{statement}
 use Rattle.face.proofs.galdwist_directory.Tie as tie

@@ -1,6 +1,6 @@
 -- The fresh library is written by the proved function; its answer gives the number and the value.
 use mathlib.Core.Path.{ap, _∙_}
-use Rattle.fresh.specs.Fresh.{begunNumber, begunValue}
+use Rattle.library_fresh.specs.Fresh.{begunNumber, begunValue}
 use borrow.Author.Needs.{needs}
 use Rattle.face.proofs.galdwist_fresh.Statement.{statement}
 use Rattle.face.proofs.galdwist_fresh.Tie as tie

@@ -1,6 +1,6 @@
 -- The run is that of the proved function; its answer gives the number and the value.
 use mathlib.Core.Path.{ap, _∙_}
-use Rattle.corrections.specs.Run.{ranNumber, ranValue}
+use Rattle.run_meaning.specs.Run.{ranNumber, ranValue}
 use borrow.Author.Needs.{needs}
 use Rattle.face.proofs.galdwist_run.Statement.{statement}
 use Rattle.face.proofs.galdwist_run.Tie as tie

@@ -1,6 +1,6 @@
 -- Packed bytes are unpacked by the proved function; its answer gives the number and the value.
 use mathlib.Core.Path.{ap, _∙_}
-use Rattle.packing.specs.Pack.{packingNumber, packingValue}
+use Rattle.words_packing.specs.Pack.{packingNumber, packingValue}
 use borrow.Author.Needs.{needs}
 use Rattle.face.proofs.galdwist_unpack.Statement.{statement}
 use Rattle.face.proofs.galdwist_unpack.Tie as tie

@@ -4,7 +4,7 @@ use mathlib.Core.Path.{_≡_, refl, _∙_}
 use native.Mathlib.Omega.{arith}
 use lib.ListN.{length, getD, length-set}
 use Rattle.library_raise.specs.Raised.{wordRaised}
-use Rattle.library_raise.proofs.Histories.{Going, going-start, going-more, going-end, going-none}
+use Rattle.library_raise.proofs.FurtherRaised.{Going, going-start, going-more, going-end, going-none}
 use borrow.Author.Needs.{needs}
 use Rattle.library_raise.proofs.raise_history.Statement.{statement}
 use Rattle.library_raise.proofs.raise_history.Tie as tie

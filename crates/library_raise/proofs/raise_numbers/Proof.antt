@@ -3,8 +3,8 @@ use Prim.Native.Nat.{_-_}
 use mathlib.Core.Path.{_≡_, refl, _∙_}
 use lib.ListN.{length}
 use Rattle.library_raise.specs.Raised.{cardRaised}
-use Rattle.library_raise.proofs.Cards.{none-raised}
-use Rattle.settling.proofs.Cards.{Ahead, ahead-start, ahead-more, ahead-end}
+use Rattle.library_raise.proofs.CardRaised.{none-raised}
+use Rattle.library_yanks_bits.proofs.Cards.{Ahead, ahead-start, ahead-more, ahead-end}
 use borrow.Author.Needs.{needs}
 use Rattle.library_raise.proofs.raise_numbers.Statement.{statement}
 use Rattle.library_raise.proofs.raise_numbers.Tie as tie

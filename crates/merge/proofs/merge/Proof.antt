@@ -1,13 +1,13 @@
 -- The first's rows come ahead of the second's; what both checks accept is merged.
 use mathlib.Core.Path.{sym, _∙_}
 use Rattle.library.proofs.ImageParts.{accepted-is, readable}
-use Rattle.merge.proofs.Answering.{first-answer, second-answer, sound-answer}
+use Rattle.merge.proofs.MergeAnswer.{first-answer, second-answer, sound-answer}
 use borrow.Author.Needs.{needs}
 use Rattle.merge.proofs.merge.Statement.{statement}
 use Rattle.merge.proofs.merge.Tie as tie
 use Rattle.merge.proofs.merge.Reads as reads
 use Rattle.merge.proofs.merge.Lts as lts
-use Rattle.checks.proofs.check.Reads as check-reads
+use Rattle.library_check.proofs.check.Reads as check-reads
 use Rattle.merge.proofs.merge_sound.Reads as merge-sound-reads
 
 check-requires : tie.Need-check-requires

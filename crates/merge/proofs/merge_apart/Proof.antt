@@ -1,5 +1,5 @@
 -- The words of both decide 32; what is written is the image of the merged library.
-use Rattle.merge.proofs.Answering.{space-answer, done-answer}
+use Rattle.merge.proofs.MergeAnswer.{space-answer, done-answer}
 use borrow.Author.Needs.{needs}
 use Rattle.merge.proofs.merge_apart.Statement.{statement}
 use Rattle.merge.proofs.merge_apart.Tie as tie

@@ -8,30 +8,32 @@ use borrow.Author.Tests.{not-true, not-false}
 use Rattle.words.specs.Base.{placeFrom}
 use Rattle.library.specs.Check.{directoryOf}
 use Rattle.library.specs.Readable.{Readable}
-use Rattle.merge_meaning.specs.Merge.{merge, isShared}
+use Rattle.merge_meaning.specs.Merge.{merge}
+use Rattle.library.specs.Library.{hasName}
 use Rattle.merge.specs.declared.parts.Parts.{Parts}
-use Rattle.merge.specs.Words.{partsOf, Parted, orNone}
-use Rattle.merge.proofs.Encoded.{parted}
-use Rattle.merge.proofs.Laying.{directory-part}
-use Rattle.merge.proofs.Answering.{limit-answer, shared-answer, apart-answer}
+use Rattle.merge_names.specs.Common.{orNone}
+use Rattle.merge.specs.Words.{placesOf, Laid}
+use Rattle.merge.proofs.MergedWords.{parted}
+use Rattle.merge.proofs.MergedLayout.{directory-part}
+use Rattle.merge.proofs.MergeAnswer.{limit-answer, shared-answer, apart-answer}
 use borrow.Author.Needs.{needs}
 use Rattle.merge.proofs.merge_sound.Statement.{statement}
 use Rattle.merge.proofs.merge_sound.Tie as tie
 use Rattle.merge.proofs.merge_sound.Reads as reads
 use Rattle.merge.proofs.merge_sound.Lts as lts
-use Rattle.merge.proofs.names.shared_name.Reads as shared-name-reads
+use Rattle.merge_names.proofs.shared_name.Reads as shared-name-reads
 use Rattle.merge.proofs.parts.parts_of.Reads as parts-of-reads
 use Rattle.merge.proofs.within_both.Reads as within-both-reads
 use Rattle.merge.proofs.merge_apart.Reads as merge-apart-reads
 
 -- the places of an image that was read, and its directory as a part of it
-parts-are : (ws : List ℕ) (r : Parts) → Readable ws → r ≡ partsOf ws → Parted ws r
-parts-are ws r k e = subst (Parted ws) (sym e) (parted ws (k .lib) (k .accepted))
+parts-are : (ws : List ℕ) (r : Parts) → Readable ws → r ≡ placesOf ws → Laid ws r
+parts-are ws r k e = subst (Laid ws) (sym e) (parted ws (k .lib) (k .accepted))
 
-name-is : (ws vs : List ℕ) (a b : Parts) → Parted ws a → Parted vs b → (r : ℕ)
-    → r ≡ orNone (placeFrom (isShared (take (a .names - 2) (drop 2 ws))) 2 (take (b .names - 2) (drop 2 vs)))
-    → r ≡ orNone (placeFrom (isShared (directoryOf ws)) 2 (directoryOf vs))
-name-is ws vs a b f g r e = e ∙ ap₂ (λ (x y : List ℕ). orNone (placeFrom (isShared x) 2 y)) (directory-part ws a f) (directory-part vs b g)
+name-is : (ws vs : List ℕ) (a b : Parts) → Laid ws a → Laid vs b → (r : ℕ)
+    → r ≡ orNone (placeFrom (hasName (take (a .names - 2) (drop 2 ws))) 2 (take (b .names - 2) (drop 2 vs)))
+    → r ≡ orNone (placeFrom (hasName (directoryOf ws)) 2 (directoryOf vs))
+name-is ws vs a b f g r e = e ∙ ap₂ (λ (x y : List ℕ). orNone (placeFrom (hasName x) 2 y)) (directory-part ws a f) (directory-part vs b g)
 
 parts-of-requires : tie.Need-parts-of-requires
 parts-of-requires c κs = search needs

@@ -1,7 +1,7 @@
 -- The counts of both decide.
 use Prim.Native.Nat.{_+_}
 use mathlib.Core.Path.{ap₂}
-use Rattle.merge.proofs.Answering.{within}
+use Rattle.merge.proofs.MergeAnswer.{within}
 use borrow.Author.Needs.{needs}
 use Rattle.merge.proofs.within_both.Statement.{statement}
 use Rattle.merge.proofs.within_both.Tie as tie

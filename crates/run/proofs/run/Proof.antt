@@ -7,7 +7,7 @@ use Rattle.run.proofs.run.Statement.{statement}
 use Rattle.run.proofs.run.Tie as tie
 use Rattle.run.proofs.run.Reads as reads
 use Rattle.run.proofs.run.Lts as lts
-use Rattle.checks.proofs.check.Reads as check-reads
+use Rattle.library_check.proofs.check.Reads as check-reads
 use Rattle.run.proofs.runs.run_stream.Reads as run-stream-reads
 
 check-requires : tie.Need-check-requires

@@ -21,8 +21,8 @@ slice-aggregate-take-bytes c = search needs
 take-bytes-requires : tie.Need-take-bytes-requires Inv-loop μ-loop
 take-bytes-requires c κs = search needs
 
-word-requires : tie.Need-word-requires Inv-loop μ-loop
-word-requires c κs = search needs
+word-of-requires : tie.Need-word-of-requires Inv-loop μ-loop
+word-of-requires c κs = search needs
 
 mul-out : tie.Need-mul-out Inv-loop μ-loop
 mul-out c = search needs
@@ -54,7 +54,7 @@ take-words-spec =
     loop-holds
     slice-aggregate-take-bytes
     take-bytes-requires
-    word-requires
+    word-of-requires
     mul-out
     slice-write-out
     add-i

@@ -2,7 +2,8 @@
 use mathlib.Core.Path.{_≡_}
 use native.Mathlib.Omega.{arith}
 use Rattle.words.specs.Display.{codeOf}
-use Rattle.words.specs.Names.{isName, nameWord, wordOfName}
+use Rattle.words.specs.Names.{isName, nameWord}
+use Rattle.words.specs.Spelt.{wordOfName}
 use borrow.Author.Needs.{needs}
 use Rattle.library.proofs.fixed.header_word.Statement.{statement}
 use Rattle.library.proofs.fixed.header_word.Tie as tie

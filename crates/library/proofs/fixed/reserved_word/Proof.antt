@@ -1,6 +1,7 @@
 -- The word of this name is a number that antt computes. Assumes nothing.
 use Rattle.words.specs.Display.{codeOf}
-use Rattle.words.specs.Names.{isName, nameWord, wordOfName}
+use Rattle.words.specs.Names.{isName, nameWord}
+use Rattle.words.specs.Spelt.{wordOfName}
 use borrow.Author.Needs.{needs}
 use Rattle.library.proofs.fixed.reserved_word.Statement.{statement}
 use Rattle.library.proofs.fixed.reserved_word.Tie as tie

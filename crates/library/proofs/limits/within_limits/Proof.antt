@@ -3,7 +3,7 @@ use native.Mathlib.Omega.{arith}
 use mathlib.Core.Path.{sym}
 use lib.Dec.{leb}
 use borrow.Author.Tests.{lt-leb, le-leb}
-use Rattle.library.proofs.Anys.{and-true}
+use Rattle.words.proofs.TestParts.{and-true}
 use Rattle.library.specs.Counts.{withinCounts}
 use Rattle.library.proofs.limits.within_limits.Statement.{statement}
 use Rattle.library.proofs.limits.within_limits.Tie as tie

@@ -1,17 +1,17 @@
 -- Each card seen is one of those that stand from its place on.
 use Prim.Native.Nat.{_+_, _-_, _≤_}
 use native.Mathlib.Omega.{arith}
-use mathlib.Core.Path.{_≡_, refl, ap, sym, _∙_}
+use mathlib.Core.Path.{_≡_, ap}
 use lib.ListN.{length}
-use Rattle.image.specs.Places.{placesIn}
-use Rattle.image.proofs.Standing.{places-end}
-use Rattle.merge.proofs.Counting.{count-on}
+use Rattle.library_image.specs.Places.{placesIn}
+use Rattle.library_image.proofs.CardPlaces.{places-end}
+use Rattle.merge.proofs.CardCount.{count-on}
 use borrow.Author.Needs.{needs}
 use Rattle.merge.proofs.counted.count_cards.Statement.{statement}
 use Rattle.merge.proofs.counted.count_cards.Tie as tie
 use Rattle.merge.proofs.counted.count_cards.Reads as reads
 use Rattle.merge.proofs.counted.count_cards.Lts as lts
-use Rattle.image.proofs.see.Reads as see-reads
+use Rattle.library_image.proofs.see.Reads as see-reads
 
 abbrev Inv-loop : tie.InvT-loop
 Inv-loop image from at₀ n₀ at n = (n + from ≤ at) × ((n ≤ length image) × (n + length (placesIn image at) ≡ length (placesIn image from)))

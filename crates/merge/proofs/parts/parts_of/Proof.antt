@@ -1,15 +1,15 @@
 -- The three places are those that the functions below answer.
-use mathlib.Core.Path.{_≡_, ap, _∙_}
-use Prim.Native.Nat.{ℕ, _+_}
-use Rattle.decks.specs.Decks.{deckEnd}
+use mathlib.Core.Path.{ap, _∙_}
+use Prim.Native.Nat.{_+_}
+use Rattle.library_image_decks.specs.Decks.{deckEnd}
 use borrow.Author.Needs.{needs}
 use Rattle.merge.proofs.parts.parts_of.Statement.{statement}
 use Rattle.merge.proofs.parts.parts_of.Tie as tie
 use Rattle.merge.proofs.parts.parts_of.Reads as reads
 use Rattle.merge.proofs.parts.parts_of.Lts as lts
-use Rattle.decks.proofs.cards_place.Reads as cards-place-reads
-use Rattle.decks.proofs.deck_end.Reads as deck-end-reads
-use Rattle.tables.proofs.entries_of.Reads as entries-of-reads
+use Rattle.library_image_decks.proofs.cards_place.Reads as cards-place-reads
+use Rattle.library_image_decks.proofs.deck_end.Reads as deck-end-reads
+use Rattle.library_tables.proofs.entries_of.Reads as entries-of-reads
 
 cards-place-requires : tie.Need-cards-place-requires
 cards-place-requires c κs = search needs

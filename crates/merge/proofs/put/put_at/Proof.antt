@@ -1,11 +1,11 @@
 -- The space is lent from the place on; what is put there is copied over its beginning.
-use Rattle.merge.proofs.Putting.{put-part}
+use Rattle.merge.proofs.PutStretches.{put-part}
 use borrow.Author.Needs.{needs}
 use Rattle.merge.proofs.put.put_at.Statement.{statement}
 use Rattle.merge.proofs.put.put_at.Tie as tie
 use Rattle.merge.proofs.put.put_at.Reads as reads
 use Rattle.merge.proofs.put.put_at.Lts as lts
-use Rattle.store.proofs.copy.Reads as copy-reads
+use Rattle.library_store.proofs.copy.Reads as copy-reads
 
 mul-copy : tie.Need-mul-copy
 mul-copy c = search needs

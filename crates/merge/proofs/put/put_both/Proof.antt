@@ -4,7 +4,7 @@ use mathlib.Core.List.{List}
 use Prim.Native.Nat.{ℕ, _+_}
 use lib.ListN.{length}
 use Rattle.merge.specs.Words.{putAt}
-use Rattle.merge.proofs.Putting.{put-then}
+use Rattle.merge.proofs.PutStretches.{put-then}
 use borrow.Author.Needs.{needs}
 use Rattle.merge.proofs.put.put_both.Statement.{statement}
 use Rattle.merge.proofs.put.put_both.Tie as tie

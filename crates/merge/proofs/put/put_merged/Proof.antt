@@ -3,8 +3,8 @@ use mathlib.Core.Path.{ap, _∙_}
 use mathlib.Core.List.{List}
 use Prim.Native.Nat.{ℕ}
 use lib.ListN.{length}
-use Rattle.merge.specs.Words.{tablesOf, cardsOf, mergedWords, putAt}
-use Rattle.merge.proofs.Putting.{put-last}
+use Rattle.merge.specs.Words.{tablesOf, mergedCards, mergedWords, putAt}
+use Rattle.merge.proofs.PutStretches.{put-last}
 use borrow.Author.Needs.{needs}
 use Rattle.merge.proofs.put.put_merged.Statement.{statement}
 use Rattle.merge.proofs.put.put_merged.Tie as tie
@@ -28,7 +28,7 @@ returns c =
     let s = c .before .before .before .before .before .before .before .before .before .before .before in
     let a = s .args in
     let ts : List ℕ = tablesOf (a .first .now) (a .second .now) in
-    let cs : List ℕ = cardsOf (a .first .now) (a .second .now) in
+    let cs : List ℕ = mergedCards (a .first .now) (a .second .now) in
     c .before .before .put-cards .ensures ∙ ap (putAt (length ts) cs) (c .before .before .before .before .before .before .put-tables .ensures) ∙ put-last ts cs (a .space .now)
 
 pub put-merged-spec : {M : Type 1} → statement M

@@ -1,10 +1,9 @@
 -- Both are put, and the second is raised where it stands.
 use mathlib.Core.Path.{ap, _∙_}
-use mathlib.Core.List.{List}
 use Prim.Native.Nat.{ℕ, _+_}
 use lib.ListN.{length}
-use Rattle.merge.specs.Words.{putAt, raisedPart}
-use Rattle.merge.proofs.Putting.{put-raised}
+use Rattle.merge.specs.Words.{raisedPart}
+use Rattle.merge.proofs.PutStretches.{put-raised}
 use borrow.Author.Needs.{needs}
 use Rattle.merge.proofs.put.put_raised.Statement.{statement}
 use Rattle.merge.proofs.put.put_raised.Tie as tie

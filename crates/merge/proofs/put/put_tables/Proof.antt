@@ -4,7 +4,7 @@ use mathlib.Core.Path.{refl, ap, _∙_}
 use mathlib.Core.List.{List, _++_}
 use lib.ListN.{take, drop}
 use Rattle.merge.specs.Words.{headerOf, putAt}
-use Rattle.merge.proofs.Laying.{directory-part, list-part, rest-part, tables-laid}
+use Rattle.merge.proofs.MergedLayout.{directory-part, list-part, rest-part, tables-laid}
 use borrow.Author.Needs.{needs}
 use Rattle.merge.proofs.put.put_tables.Statement.{statement}
 use Rattle.merge.proofs.put.put_tables.Tie as tie

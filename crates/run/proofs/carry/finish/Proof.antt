@@ -9,7 +9,7 @@ use Rattle.run.proofs.carry.finish.Statement.{statement}
 use Rattle.run.proofs.carry.finish.Tie as tie
 use Rattle.run.proofs.carry.finish.Reads as reads
 use Rattle.run.proofs.carry.finish.Lts as lts
-use Rattle.store.proofs.write_library.Reads as write-library-reads
+use Rattle.library_store.proofs.write_library.Reads as write-library-reads
 
 add-k : tie.Need-add-k
 add-k c = search needs

@@ -1,11 +1,7 @@
 -- An unknown owner has no card; a known one is looked for among all cards.
-use Prim.Native.Nat.{ℕ, _+_, _≤_, _<_}
+use Prim.Native.Nat.{_≤_}
 use native.Mathlib.Omega.{arith}
-use mathlib.Core.Path.{_≡_, refl, sym, _∙_, subst}
-use mathlib.Core.Bool.{true, false}
-use lib.ListN.{length, take}
 use borrow.Author.Needs.{needs}
-use Rattle.library.specs.Library.{entryOf}
 use Rattle.run.proofs.Correcting.{seek-unknown, seek-known}
 use Rattle.run.proofs.fixes.seek_card.Statement.{statement}
 use Rattle.run.proofs.fixes.seek_card.Tie as tie

@@ -1,5 +1,5 @@
 -- The parts of the image are copied where they belong, so the library that was read is held.
-use Prim.Native.Nat.{_-_, _%_, _^_, _≤_}
+use Prim.Native.Nat.{_%_, _^_, _≤_}
 use mathlib.Core.Path.{_≡_, _∙_}
 use lib.ListN.{length, getD}
 use Rattle.run.proofs.TakenUp.{load-held, load-sane}

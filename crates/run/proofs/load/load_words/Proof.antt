@@ -8,7 +8,7 @@ use Rattle.run.proofs.load.load_words.Statement.{statement}
 use Rattle.run.proofs.load.load_words.Tie as tie
 use Rattle.run.proofs.load.load_words.Reads as reads
 use Rattle.run.proofs.load.load_words.Lts as lts
-use Rattle.store.proofs.copy.Reads as copy-reads
+use Rattle.library_store.proofs.copy.Reads as copy-reads
 
 add-at : tie.Need-add-at
 add-at c = search needs

@@ -3,7 +3,7 @@ use native.Mathlib.Omega.{arith}
 use mathlib.Core.Logic.{⊎-elim}
 use mathlib.Core.Bool.{Bool, true, false}
 use mathlib.Core.Path.{_≡_, sym, ap, _∙_}
-use Rattle.lines.specs.Directive.{directive}
+use Rattle.words_lines.specs.Directive.{directive}
 use Rattle.run.specs.Obeyed.{asksDeck}
 use Rattle.run.specs.Streamed.{inArrays}
 use Rattle.run.proofs.Obeying.{skipped-obeys, text-obeys, ident-obeys, deck-obeys, others-correct}
@@ -12,7 +12,7 @@ use Rattle.run.proofs.obey.obey_line.Statement.{statement}
 use Rattle.run.proofs.obey.obey_line.Tie as tie
 use Rattle.run.proofs.obey.obey_line.Reads as reads
 use Rattle.run.proofs.obey.obey_line.Lts as lts
-use Rattle.directives.proofs.directive.Reads as directive-reads
+use Rattle.words_lines_asked.proofs.directive.Reads as directive-reads
 use Rattle.run.proofs.obey.correct_line.Reads as correct-line-reads
 use Rattle.run.proofs.starts.deck_step.Reads as deck-step-reads
 use Rattle.run.proofs.starts.ident_step.Reads as ident-step-reads

@@ -11,7 +11,7 @@ use Rattle.run.proofs.put.put_card.Statement.{statement}
 use Rattle.run.proofs.put.put_card.Tie as tie
 use Rattle.run.proofs.put.put_card.Reads as reads
 use Rattle.run.proofs.put.put_card.Lts as lts
-use Rattle.store.proofs.copy.Reads as copy-reads
+use Rattle.library_store.proofs.copy.Reads as copy-reads
 
 add-if1 : tie.Need-add-if1
 add-if1 c = head-fits _ _ _ (c .before .before .pre .0 .0) (c .before .before .pre .0 .1) (c .before .before .pre .1 .0)

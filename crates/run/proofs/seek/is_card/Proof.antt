@@ -4,7 +4,7 @@ use mathlib.Core.Path.{sym, ap}
 use mathlib.Core.Bool.{Bool, _&&_}
 use lib.Dec.{eqb}
 use lib.ListN.{getD}
-use Rattle.corrections.proofs.FlatFind.{eqb-yes, eqb-no}
+use Rattle.run_meaning.proofs.FlatFind.{eqb-yes, eqb-no}
 use borrow.Author.Needs.{needs}
 use Rattle.run.proofs.seek.is_card.Statement.{statement}
 use Rattle.run.proofs.seek.is_card.Tie as tie

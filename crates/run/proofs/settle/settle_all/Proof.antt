@@ -2,7 +2,7 @@
 use native.Mathlib.Omega.{arith}
 use mathlib.Core.Path.{sym}
 use lib.Seq.{length-take-le}
-use Rattle.settling.specs.SettledBits.{flagged}
+use Rattle.library_yanks_bits.specs.SettledBits.{flagged}
 use Rattle.run.proofs.Working.{resettled}
 use borrow.Author.Needs.{needs}
 use Rattle.run.proofs.settle.settle_all.Statement.{statement}

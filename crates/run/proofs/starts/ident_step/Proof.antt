@@ -4,7 +4,7 @@ use lib.ListN.{set}
 use borrow.Author.Needs.{needs}
 use Rattle.run.specs.Obeyed.{StaysSane, IdentSteps}
 use Rattle.run.proofs.Correcting.{not-taken, not-left}
-use Rattle.run.proofs.Starting.{ident-known, ident-on, ident-sane, identDesk}
+use Rattle.run.proofs.Starting.{ident-known, ident-on, ident-sane}
 use Rattle.run.proofs.starts.ident_step.Statement.{statement}
 use Rattle.run.proofs.starts.ident_step.Tie as tie
 use Rattle.run.proofs.starts.ident_step.Reads as reads

@@ -12,8 +12,8 @@ use Rattle.run.proofs.streams.obey_stream.Statement.{statement}
 use Rattle.run.proofs.streams.obey_stream.Tie as tie
 use Rattle.run.proofs.streams.obey_stream.Reads as reads
 use Rattle.run.proofs.streams.obey_stream.Lts as lts
-use Rattle.lines.proofs.line_at.Reads as line-at-reads
-use Rattle.corrections.proofs.line_after.Reads as line-after-reads
+use Rattle.words_lines.proofs.line_at.Reads as line-at-reads
+use Rattle.run_meaning.proofs.line_after.Reads as line-after-reads
 use Rattle.run.proofs.obey.obey_line.Reads as obey-line-reads
 
 abbrev Inv-loop : tie.InvT-loop

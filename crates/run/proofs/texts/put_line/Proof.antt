@@ -9,7 +9,7 @@ use Rattle.run.proofs.texts.put_line.Tie as tie
 use Rattle.run.proofs.texts.put_line.Reads as reads
 use Rattle.run.proofs.texts.put_line.Lts as lts
 use Rattle.run.proofs.put.put_card.Reads as put-card-reads
-use Rattle.compressing.proofs.compress.Reads as compress-reads
+use Rattle.words_text_compress.proofs.compress.Reads as compress-reads
 
 compress-requires : tie.Need-compress-requires
 compress-requires c κs = search needs

@@ -4,7 +4,7 @@ use Prim.Native.Nat.{_+_, _-_, _≤_}
 use native.Mathlib.Omega.{arith}
 use lib.ListN.{length, take}
 use Rattle.words.specs.Base.{any}
-use Rattle.lines.proofs.Walking.{step-name, namesFrom}
+use Rattle.words_lines.proofs.FieldNames.{step-name, namesFrom}
 use Rattle.run.specs.YankNames.{namesIn, unknownIn}
 use Rattle.run.proofs.YankTests.{names-start, names-here, names-on, names-over}
 use borrow.Author.Needs.{needs}

@@ -4,7 +4,7 @@ use mathlib.Core.Path.{_≡_, refl, sym, _∙_}
 use lib.ListN.{take}
 use lib.Seq.{slice}
 use Rattle.words.specs.Base.{member}
-use Rattle.library.proofs.Searching.{stands-here, stands-on, stands-none}
+use Rattle.library.proofs.FirstPlace.{stands-here, stands-on, stands-none}
 use borrow.Author.Needs.{needs}
 use Rattle.run.proofs.yanks.stands.Statement.{statement}
 use Rattle.run.proofs.yanks.stands.Tie as tie

@@ -1,4 +1,4 @@
--- Outside a set 24, an unknown name 26, a name of no other set 27; else the line becomes a card of YANK$$$, and the bits are settled again.
+-- Outside a set 24, an unknown name 26, a name of no other set 27; else there is a new card in YANK$$$, and the bits are settled again.
 use Prim.Native.Nat.{ℕ, _+_}
 use native.Mathlib.Omega.{arith}
 use mathlib.Core.Path.{_≡_, sym, ap, _∙_, subst}

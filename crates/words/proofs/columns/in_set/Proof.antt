@@ -5,8 +5,8 @@ use mathlib.Core.Path.{_≡_, sym, refl, _∙_}
 use lib.ListN.{length, drop}
 use Rattle.words.specs.Base.{all}
 use Rattle.words.specs.Display.{inChart}
-use Rattle.words.proofs.Charted.{set-under, set-above, set-inside}
-use Rattle.words.proofs.Passing.{passes, stops, passed-all}
+use Rattle.words.proofs.ChartBothWays.{set-under, set-above, set-inside}
+use Rattle.words.proofs.AllPass.{passes, stops, passed-all}
 use Rattle.words.proofs.columns.in_set.Statement.{statement}
 use Rattle.words.proofs.columns.in_set.Tie as tie
 

@@ -6,7 +6,7 @@ use mathlib.Core.Path.{_≡_, sym}
 use lib.ListN.{length, take}
 use lib.Seq.{length-take-le}
 use Rattle.words.specs.Text.{trim}
-use Rattle.words.proofs.Trimming.{cut-start, cut-here, cut-on, cut-none}
+use Rattle.words.proofs.TrimmedLine.{cut-start, cut-here, cut-on, cut-none}
 use Rattle.words.proofs.columns.trimmed.Statement.{statement}
 use Rattle.words.proofs.columns.trimmed.Tie as tie
 

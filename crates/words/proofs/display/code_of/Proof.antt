@@ -6,8 +6,8 @@ use mathlib.Core.List.{List}
 use lib.Dec.{T, eqb, eqb→eq}
 use Rattle.words.specs.Base.{bytes}
 use Rattle.words.specs.Display.{codeOf}
-use Rattle.words.proofs.Table.{Apart, left-over}
-use Rattle.words.proofs.Charted.{code-under, counts, counts-from, counts-is}
+use Rattle.words.proofs.EveryPlace.{Apart, left-over}
+use Rattle.words.proofs.ChartBothWays.{code-under, counts, counts-from, counts-is}
 use Rattle.words.proofs.display.code_of.Statement.{statement}
 use Rattle.words.proofs.display.code_of.Tie as tie
 

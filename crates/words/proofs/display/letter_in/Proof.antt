@@ -1,7 +1,7 @@
 -- `display::letter_in` is right because there are blanks outside the chart. Assumes nothing.
 use borrow.Author.Needs.{needs}
 use mathlib.Core.Path.{sym}
-use Rattle.words.proofs.Charted.{letter-outside}
+use Rattle.words.proofs.ChartBothWays.{letter-outside}
 use Rattle.words.proofs.display.letter_in.Statement.{statement}
 use Rattle.words.proofs.display.letter_in.Tie as tie
 

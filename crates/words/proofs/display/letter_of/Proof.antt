@@ -5,8 +5,8 @@ use mathlib.Core.Path.{_≡_, sym}
 use mathlib.Core.List.{List, _∷_}
 use lib.Dec.{T, eqb, eqb→eq}
 use Rattle.words.specs.Display.{letter, blank}
-use Rattle.words.proofs.Table.{Apart, from, left-over}
-use Rattle.words.proofs.Charted.{counts, counts-from, counts-is}
+use Rattle.words.proofs.EveryPlace.{Apart, from, left-over}
+use Rattle.words.proofs.ChartBothWays.{counts, counts-from, counts-is}
 use Rattle.words.proofs.display.letter_of.Statement.{statement}
 use Rattle.words.proofs.display.letter_of.Tie as tie
 

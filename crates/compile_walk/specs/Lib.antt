@@ -1,0 +1,6 @@
+pub mod Lines
+pub mod View
+pub mod Walk
+pub mod TableView
+pub mod Steps
+pub mod Ends

@@ -1,4 +1,0 @@
-pub mod Putting
-pub mod Squeezing
-pub mod Filling
-pub mod Answers

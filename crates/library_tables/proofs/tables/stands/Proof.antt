@@ -1,0 +1,64 @@
+-- Up to each place no word is w, so w stands in the whole just where it stands in the rest. Assumes nothing.
+use Prim.Native.Nat.{_-_, _≤_}
+use mathlib.Core.Path.{_≡_, refl, sym, _∙_}
+use lib.ListN.{take}
+use lib.Seq.{slice}
+use Rattle.words.specs.Base.{member}
+use Rattle.library.proofs.FirstPlace.{stands-here, stands-on, stands-none}
+use borrow.Author.Needs.{needs}
+use Rattle.library_tables.proofs.tables.stands.Statement.{statement}
+use Rattle.library_tables.proofs.tables.stands.Tie as tie
+
+abbrev Inv-loop : tie.InvT-loop
+Inv-loop table n w i₀ i = (i ≤ n) × (member w (take n table) ≡ member w (slice i n table))
+
+abbrev μ-loop : tie.MeasureT-loop
+μ-loop table n w i₀ i = n - i
+
+loop-holds : tie.Need-loop-holds Inv-loop μ-loop
+loop-holds c = (search needs, refl)
+
+mul-if1 : tie.Need-mul-if1 Inv-loop μ-loop
+mul-if1 c = search needs
+
+shared-slice-read-if1 : tie.Need-shared-slice-read-if1 Inv-loop μ-loop
+shared-slice-read-if1 c = search needs
+
+returns : tie.Need-returns Inv-loop μ-loop
+returns c =
+    let l = c .before .before .before .loop in
+    let a = c .before .before .before .before .args in
+    sym (l .inv .1 ∙ stands-here (a .w) (a .table .now) (a .n) (l .i) (search needs) (search needs) (c .if1 .taken))
+
+add-i : tie.Need-add-i Inv-loop μ-loop
+add-i c = search needs
+
+loop-less : tie.Need-loop-less Inv-loop μ-loop
+loop-less c = search needs
+
+loop-again : tie.Need-loop-again Inv-loop μ-loop
+loop-again c =
+    let l = c .before .before .before .loop in
+    let a = c .before .before .before .before .args in
+    (search needs, l .inv .1 ∙ stands-on (a .w) (a .table .now) (a .n) (l .i) (search needs) (search needs) (c .if1 .left))
+
+returns-2 : tie.Need-returns-2 Inv-loop μ-loop
+returns-2 c =
+    let l = c .before .loop in
+    let a = c .before .before .args in
+    sym (l .inv .1 ∙ stands-none (a .w) (a .table .now) (a .n) (l .i) (search needs) (search needs))
+
+pub stands-spec : {M : Type 1} → statement M
+stands-spec =
+    tie.close
+    (tie.spec
+    Inv-loop
+    μ-loop
+    loop-holds
+    mul-if1
+    shared-slice-read-if1
+    returns
+    add-i
+    loop-less
+    loop-again
+    returns-2)

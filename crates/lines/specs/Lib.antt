@@ -1,4 +1,0 @@
-pub mod Directive
-pub mod Reading
-pub mod Scan
-pub mod LineEnds

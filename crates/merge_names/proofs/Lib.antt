@@ -1,0 +1,2 @@
+-- An entry of the second whose name the first has, and its number there.
+pub mod CommonName

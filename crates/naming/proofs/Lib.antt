@@ -1,4 +1,0 @@
-pub mod Counted
-pub mod Pointing
-pub mod Judging
-pub mod Entered

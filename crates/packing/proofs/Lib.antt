@@ -1,5 +1,0 @@
-pub mod Bytes
-pub mod Filling
-pub mod Outcome
-pub mod Pairs
-pub mod PackTrip

@@ -1,6 +1,0 @@
-pub mod Placing
-pub mod Forming
-pub mod Seeing
-pub mod Testing
-pub mod Carding
-pub mod Answering

@@ -1,3 +1,0 @@
-pub mod Fixing
-pub mod Histories
-pub mod Cards

@@ -1,3 +1,0 @@
-pub mod Tabling
-pub mod Listing
-pub mod Answering

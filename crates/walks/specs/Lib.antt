@@ -1,5 +1,0 @@
-pub mod View
-pub mod Walk
-pub mod TableView
-pub mod Steps
-pub mod Ends

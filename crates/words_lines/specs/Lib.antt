@@ -1,0 +1,5 @@
+pub mod Directive
+pub mod FirstLine
+pub mod Reading
+pub mod Scan
+pub mod LineEnds
