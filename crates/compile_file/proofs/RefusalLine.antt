@@ -1,5 +1,5 @@
 -- Texts put one after another make the line of a refusal, its numbers without blanks ahead of them. Assumes nothing.
---   texts       Puts, puts-then, puts-front, wrote-few, written-byte, paste-written
+--   texts       Puts, puts-then, puts-front, wrote-few, put-byte
 --   numbers     numeral-few, field-numeral, blank-more, blank-stop
 --   the lines   part, part-put, refused-put, card-put
 use Prim.Native.Nat.{ℕ, zero, suc, _+_, _-_, _/_, _%_, _≤_, _<_}
@@ -11,57 +11,39 @@ use mathlib.Core.List.{List, [], _∷_, _++_, append-assoc}
 use borrow.Author.Tests.{le-leb, ne-eqb}
 use lib.Dec.{ltb}
 use lib.ListN.{length, getD, take, drop, set, replicate, length-append}
-use lib.Seq.{paste, take-length, take-at, drop-drop, drop-cons, set-split, length-take-le, drop-append-add}
+use lib.Seq.{drop-cons, set-split}
 use Rattle.words.specs.Base.{if_then_else_, bytes}
 use Rattle.words.specs.Display.{blank}
 use Rattle.words.specs.Names.{digits, numeral, rightJustified}
 use Rattle.words.specs.Spelt.{numberInto}
 use Rattle.compile.specs.Compile.{refusedLine, cardPlace}
-use Rattle.compile_file.specs.Written.{written, Wrote, afterBlanks}
+use Rattle.words_lists.specs.Over.{putAt}
+use Rattle.words_lists.proofs.OverLists.{put-then}
+use Rattle.compile_file.specs.Written.{Wrote, afterBlanks}
 
 -- TEXTS: x is the space with a text put at a place, r where it ends
 abbrev pub Puts : List ℕ → ℕ → List ℕ → ℕ → List ℕ → Type 0
-Puts text at space r x = (r ≡ at + length text) × (x ≡ written text at space)
+Puts text at space r x = (r ≡ at + length text) × (x ≡ putAt at text space)
 
 module _ (s t space : List ℕ) (at : ℕ) (room : at + length s ≤ length space) where
-  written-then : written t (at + length s) (written s at space) ≡ written (s ++ t) at space
-  written-then =
-      let e : List ℕ = take at space ++ s in
-      let w : written s at space ≡ e ++ drop (at + length s) space = sym (append-assoc (take at space) s (drop (at + length s) space)) in
-      let n : length e ≡ at + length s = length-append (take at space) s ∙ omega (arith, length-take-le at space (omega arith)) in
-      let front : take (at + length s) (written s at space) ≡ e = ap (take (at + length s)) w ∙ take-at e (drop (at + length s) space) (at + length s) n in
-      let m : at + length s + length t ≡ length e + length t = omega arith in
-      let z : at + length s + length t ≡ at + length (s ++ t) = omega (arith, length-append s t) in
-      let back : drop (at + length s + length t) (written s at space) ≡ drop (at + length (s ++ t)) space =
-      ap (drop (at + length s + length t)) w ∙ ap (λ (k : ℕ). drop k (e ++ drop (at + length s) space)) m
-      ∙ drop-append-add e (drop (at + length s) space) (length t) ∙ drop-drop (length t) (at + length s) space
-      ∙ ap (λ (k : ℕ). drop k space) z in
-      (λ i. front i ++ (t ++ back i)) ∙ append-assoc (take at space) s (t ++ drop (at + length (s ++ t)) space)
-      ∙ ap (λ (r : List ℕ). take at space ++ r) (sym (append-assoc s t (drop (at + length (s ++ t)) space)))
-
   pub puts-then : (r q : ℕ) (x y : List ℕ) → Puts s at space r x → Puts t r x q y → Puts (s ++ t) at space q y
   puts-then r q x y a b = (
     omega (arith, length-append s t),
-    b .1 ∙ (λ i. written t (a .0 i) (a .1 i)) ∙ written-then,
+    b .1 ∙ (λ i. putAt (a .0 i) t (a .1 i)) ∙ put-then at s t space room,
   )
 
 -- at the front
 pub puts-front : (s t space : List ℕ) (r : ℕ) (x : List ℕ) → s ≡ t → Puts s 0 space r x → Wrote t r space x
 puts-front s t space r x e p =
     let z : 0 + length t ≡ length t = omega arith in
-    (omega (arith, ap length e), p .1 ∙ ap (λ (u : List ℕ). written u 0 space) e ∙ ap (λ (k : ℕ). t ++ drop k space) z)
+    (omega (arith, ap length e), p .1 ∙ ap (λ (u : List ℕ). putAt 0 u space) e ∙ ap (λ (k : ℕ). t ++ drop k space) z)
 
 -- what was written lies within the space
 pub wrote-few : (text space x : List ℕ) (n : ℕ) → Wrote text n space x → n ≤ length x
 wrote-few text space x n w = omega (arith, ap length (w .1), length-append text (drop (length text) space))
 
-pub written-byte : (space : List ℕ) (at b : ℕ) → at < length space → set space at b ≡ written (b ∷ []) at space
-written-byte space at b h = rw add-one (set-split space at b h)
-
-pub paste-written : (text space : List ℕ) (at : ℕ) → paste space at text (length text) ≡ written text at space
-paste-written text space at =
-    ap (λ (r : List ℕ). (take at space ++ r) ++ drop (at + length text) space) (take-length text)
-    ∙ append-assoc (take at space) text (drop (at + length text) space)
+pub put-byte : (space : List ℕ) (at b : ℕ) → at < length space → set space at b ≡ putAt at (b ∷ []) space
+put-byte space at b h = rw add-one (set-split space at b h ∙ sym (append-assoc (take at space) (b ∷ []) (drop (suc at) space)))
 
 -- NUMBERS
 digits-few : (k n : ℕ) (r : List ℕ) → length (digits k n r) ≤ k + length r
@@ -121,7 +103,7 @@ pub part-put : (n b : ℕ) (space : List ℕ) (at r : ℕ) (x : List ℕ) → at
 part-put n b space at r x room long p =
     let h : at + length (numeral n) ≤ length space = omega (arith, numeral-few n) in
     let l : r < length x = omega (arith, numeral-few n) in
-    puts-then (numeral n) (b ∷ []) space at h r (r + 1) x (set x r b) p (refl, written-byte x r b l)
+    puts-then (numeral n) (b ∷ []) space at h r (r + 1) x (set x r b) p (refl, put-byte x r b l)
 
 abbrev start : List ℕ
 start = bytes "REFUSED "

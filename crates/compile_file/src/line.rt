@@ -5,7 +5,8 @@ ghost use Prim.Native.Nat.{_+_, _≤_};
 ghost use lib.ListN.{length, drop};
 ghost use Rattle.words.specs.Names.{numeral};
 ghost use Rattle.compile.specs.Compile.{refusedLine, cardPlace};
-ghost use Rattle.compile_file.specs.Written.{written, Wrote, afterBlanks};
+ghost use Rattle.compile_file.specs.Written.{Wrote, afterBlanks};
+ghost use Rattle.words_lists.specs.Over.{putAt};
 
 // the most digits of any number
 const DIGITS: usize = 20;
@@ -18,14 +19,10 @@ const NEWLINE: u8 = 10;
 fn put_text(text: &[u8], out: &mut [u8], at: usize) -> usize
     requires { ⌜ at + length (now text) ≤ length (now out) ⌝ }
     ensures { λ r. ⌜ r ≡ at + length (now (text .entry)) ⌝ }
-    ensures { λ _. ⌜ now (out .exit) ≡ written (now (text .entry)) at (now (out .entry)) ⌝ }
+    ensures { λ _. ⌜ now (out .exit) ≡ putAt at (now (text .entry)) (now (out .entry)) ⌝ }
 {
-    let mut i = 0;
-    while i < text.len() {
-        out[at + i] = text[i];
-        i += 1;
-    }
-    at + i
+    words_lists::put_bytes(text, out, at);
+    at + text.len()
 }
 
 // Where the blanks ahead of a number end.
@@ -47,7 +44,7 @@ fn digits_at(field: &[u8]) -> usize
 fn put_numeral(n: u64, out: &mut [u8], at: usize) -> usize
     requires { ⌜ at + 20 ≤ length (now out) ⌝ }
     ensures { λ r. ⌜ (r ≡ at + length (numeral n)) × (r ≤ at + 20) ⌝ }
-    ensures { λ _. ⌜ now (out .exit) ≡ written (numeral n) at (now (out .entry)) ⌝ }
+    ensures { λ _. ⌜ now (out .exit) ≡ putAt at (numeral n) (now (out .entry)) ⌝ }
 {
     let mut field = [BLANK; DIGITS];
     words_names::put_number(n, &mut field);
@@ -59,7 +56,7 @@ fn put_numeral(n: u64, out: &mut [u8], at: usize) -> usize
 fn put_number(n: u64, then: u8, out: &mut [u8], at: usize) -> usize
     requires { ⌜ at + 21 ≤ length (now out) ⌝ }
     ensures { λ r. ⌜ (r ≡ at + length (numeral n ++ (then ∷ []))) × (r ≤ at + 21) ⌝ }
-    ensures { λ _. ⌜ now (out .exit) ≡ written (numeral n ++ (then ∷ [])) at (now (out .entry)) ⌝ }
+    ensures { λ _. ⌜ now (out .exit) ≡ putAt at (numeral n ++ (then ∷ [])) (now (out .entry)) ⌝ }
 {
     let end = put_numeral(n, out, at);
     out[end] = then;

@@ -6,7 +6,6 @@ ghost use Rattle.keeper_card.specs.Naming.{inSpace, cardShown, naming, t
 ghost use Rattle.keeper_card.specs.Parts.{AnswersOf, Answers, pointed};
 use crate::Told;
 use crate::bytes::digits;
-use crate::bytes::put_bytes;
 use crate::entry_words::entry_word;
 use library::Checked;
 
@@ -24,7 +23,7 @@ fn put_card(name: &[u8], seq: u64, out: &mut [u8]) -> Told
     if out.len() < end {
         return Told::Space;
     }
-    put_bytes(name, out, 0);
+    words_lists::put_bytes(name, out, 0);
     out[point] = POINT;
     words_names::put_number(seq, &mut out[point + 1..end]);
     Told::Done(end)

@@ -1,5 +1,5 @@
 -- With a new name at a directory's end its numbers and names stay, and what is sound stays sound.
-use Prim.Native.Nat.{ℕ, suc, _+_, _-_, _≤_, _<_}
+use Prim.Native.Nat.{ℕ, zero, suc, _+_, _-_, _≤_, _<_}
 use native.Mathlib.Omega.{arith}
 use mathlib.Core.Path.{_≡_, refl, sym, ap, ap₂, _∙_, subst}
 use mathlib.Core.Bool.{Bool, true, false, _&&_, _||_, not}
@@ -82,6 +82,13 @@ from-some w n (x ∷ xs) pos h = go (eqb w x) h (from-some w (suc n) xs (omega a
 pub entry-some : (directory : List ℕ) (w : ℕ) → 0 < entryOf directory w → T (member w directory) × (entryOf directory w ≤ length directory)
 unfolding entryOf
 entry-some directory w h = let q = from-some w 1 directory (omega arith) h in (q .0, omega (arith, q .1))
+
+pub entry-within : (directory : List ℕ) (w : ℕ) → entryOf directory w ≤ length directory
+entry-within directory w = go (entryOf directory w) refl
+  where
+    go : (n : ℕ) → entryOf directory w ≡ n → entryOf directory w ≤ length directory
+    go zero e = omega arith
+    go (suc n) e = entry-some directory w (omega arith) .1
 
 pub names-end : (directory : List ℕ) (w : ℕ) → entryOf directory w ≡ 0 → T (noTwo sameName directory) → T (noTwo sameName (directory ++ (w ∷ [])))
 names-end directory w e t =

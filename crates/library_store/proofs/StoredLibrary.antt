@@ -1,49 +1,25 @@
 -- A library written out where it has room: the header, the tables and the cards one after another.
---   words over others   put, over-put, over-all, over-none
 --   room                library-long, many-entries, many-decks, room-is, no-room, room-left, room-said
---   written             head-two, after-words, library-written, into-is, into-kept
+--   written             over-after, library-written, into-is, into-kept
 use Prim.Native.Nat.{ℕ, _+_, _-_, _*_, _^_, _≤_, _<_}
 use native.Mathlib.Omega.{arith}
-use native.Mathlib.Nat.{zero-add}
 use mathlib.Core.Path.{_≡_, refl, sym, ap, ap₂, _∙_}
 use mathlib.Core.Bool.{Bool, true, false, _&&_}
 use mathlib.Core.List.{List, [], _∷_, _++_, append-assoc}
 use borrow.Author.Tests.{lt-ltb, le-ltb, le-leb, lt-leb, leb-true, leb-false}
 use lib.Dec.{T, ltb, leb, ltb→lt, leb→le}
-use lib.ListN.{length, take, drop, set, length-append}
-use lib.Seq.{take-at, drop-drop, drop-append-add}
+use lib.ListN.{length, drop, length-append, length-drop}
 use Rattle.words.proofs.TestParts.{and-left, and-right, true-T}
+use Rattle.words_lists.specs.Over.{over}
+use Rattle.words_lists.proofs.OverLists.{over-put, put-after}
 use Rattle.library.specs.Image.{header}
-use Rattle.library_store.specs.Stored.{over, libraryWords, hasRoom, libraryInto}
-
--- a list with other words put from a place on
-abbrev pub put : List ℕ → List ℕ → ℕ → List ℕ
-put v s at = take at v ++ s ++ drop (at + length s) v
-
--- WORDS OVER OTHERS
-pub over-put : (xs ys : List ℕ) → length xs ≤ length ys → put ys xs 0 ≡ over xs ys
-unfolding over
-over-put xs ys h = rw (le-leb (length xs) (length ys) h, zero-add (length xs))
-
-pub over-all : (xs ys : List ℕ) → length xs ≤ length ys → over xs ys ≡ xs ++ drop (length xs) ys
-unfolding over
-over-all xs ys h = rw (le-leb (length xs) (length ys) h)
-
-pub over-none : (xs ys : List ℕ) → length ys < length xs → over xs ys ≡ ys
-unfolding over
-over-none xs ys h = rw (lt-leb (length xs) (length ys) h)
+use Rattle.library_store.specs.Stored.{libraryWords, hasRoom, libraryInto}
 
 -- WRITTEN one after another
-pub head-two : (e : List ℕ) (h x : ℕ) → 1 < length e → set (set e 0 h) 1 x ≡ h ∷ x ∷ drop 2 e
-head-two [] h x lt = absurd (omega arith)
-head-two (a ∷ []) h x lt = absurd (omega arith)
-head-two (a ∷ (b ∷ e)) h x lt = refl
-
--- words put after p, where p stands at the beginning
-pub after-words : (p e s : List ℕ) (at : ℕ) → length p ≡ at → put (p ++ drop at e) s at ≡ (p ++ s) ++ drop (at + length s) e
-after-words p e s at q =
-    ap₂ (λ (x y : List ℕ). (x ++ s) ++ y) (take-at p (drop at e) at q)
-    (ap (λ (i : ℕ). drop (i + length s) (p ++ drop at e)) (sym q) ∙ drop-append-add p (drop at e) (length s) ∙ drop-drop (length s) at e)
+-- words over what follows p, where p stands at the beginning
+over-after : (p e s : List ℕ) (at : ℕ) → length p ≡ at → at + length s ≤ length e → over at s (p ++ drop at e) ≡ (p ++ s) ++ drop (at + length s) e
+over-after p e s at q le =
+    over-put at s (p ++ drop at e) (omega (arith, length-append p (drop at e), length-drop at e)) ∙ put-after p e s at q
 
 module _ (directory decks low high : List ℕ) where
   abbrev n : ℕ
@@ -123,16 +99,17 @@ module _ (directory decks low high : List ℕ) where
 
   -- THE IMAGE in a space
   module _ (e : List ℕ) where
-    pub library-written : put (put (put (put (H ++ drop 2 e) directory 2) decks (2 + n)) low (2 + n + k)) high (2 + n + k + length low)
+    pub library-written : 2 + length directory + length decks + length low + length high ≤ length e
+        → over (2 + n + k + length low) high (over (2 + n + k) low (over (2 + n) decks (over 2 directory (H ++ drop 2 e))))
         ≡ libraryWords directory decks low high ++ drop (length (libraryWords directory decks low high)) e
-    library-written =
+    library-written le =
         let A : List ℕ = H ++ directory in
         let B : List ℕ = A ++ decks in
         let C : List ℕ = B ++ low in
-        ap (λ (v : List ℕ). put (put (put v decks (2 + n)) low (2 + n + k)) high (2 + n + k + length low)) (after-words H e directory 2 refl)
-        ∙ ap (λ (v : List ℕ). put (put v low (2 + n + k)) high (2 + n + k + length low)) (after-words A e decks (2 + n) long1)
-        ∙ ap (λ (v : List ℕ). put v high (2 + n + k + length low)) (after-words B e low (2 + n + k) long2)
-        ∙ after-words C e high (2 + n + k + length low) long3
+        ap (λ (v : List ℕ). over (2 + n + k + length low) high (over (2 + n + k) low (over (2 + n) decks v))) (over-after H e directory 2 refl (omega arith))
+        ∙ ap (λ (v : List ℕ). over (2 + n + k + length low) high (over (2 + n + k) low v)) (over-after A e decks (2 + n) long1 (omega arith))
+        ∙ ap (over (2 + n + k + length low) high) (over-after B e low (2 + n + k) long2 (omega arith))
+        ∙ over-after C e high (2 + n + k + length low) long3 (omega arith)
         ∙ ap₂ (λ (x : List ℕ) (i : ℕ). x ++ drop i e) (sym flat) (sym library-long)
 
     pub into-is : hasRoom directory decks low high (length e) ≡ true

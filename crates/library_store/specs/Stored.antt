@@ -1,5 +1,4 @@
--- CODE. Words over others, and a library's words in a space (RULES, "Header", "Directory", "Deck list", "Cards").
---   words over others   over
+-- CODE. A library's words in a space (RULES, "Header", "Directory", "Deck list", "Cards").
 --   a library's words   libraryWords
 --   in a space          roomTests, hasRoom, libraryInto
 use Prim.Native.Nat.{ℕ, _+_, _*_, _^_}
@@ -9,10 +8,6 @@ use lib.Dec.{ltb, leb}
 use lib.ListN.{length, drop}
 use Rattle.words.specs.Base.{if_then_else_, allOf}
 use Rattle.library.specs.Image.{header}
-
--- the first words of a list become those of another, where it has as many
-unfoldable pub over : List ℕ → List ℕ → List ℕ
-over xs ys = if leb (length xs) (length ys) then (xs ++ drop (length xs) ys) else ys
 
 -- the header, the counts of the two tables, then the directory, the deck list and the cards, which are given in two parts
 unfoldable pub libraryWords : List ℕ → List ℕ → List ℕ → List ℕ → List ℕ

@@ -1,6 +1,4 @@
-// Words copied, and a library written out where a space has room for it.
-mod copied;
+// A library written out where a space has room for it.
 mod written;
 
-pub use copied::copy;
 pub use written::write_library;

@@ -5,7 +5,7 @@ ghost use mathlib.Core.List.{_∷_, _++_};
 ghost use lib.ListN.{length, drop};
 ghost use Rattle.library.specs.Image.{header};
 ghost use Rattle.library_store.specs.Stored.{libraryWords, hasRoom, libraryInto};
-use crate::copied::put_words;
+use words_lists::put_words;
 
 // The words of the header.
 const AHEAD: usize = 2;

@@ -2,8 +2,8 @@
 ghost use mathlib.Core.Path.{_≡_};
 ghost use mathlib.Core.List.{[]};
 ghost use Prim.Native.Nat.{_+_, _/_, _%_, _^_, _≤_, _<_};
-ghost use lib.ListN.{length, getD, take};
-ghost use Rattle.words.specs.Base.{anyOf, member, placeFrom, aheadOf};
+ghost use lib.ListN.{length, getD};
+ghost use Rattle.words.specs.Base.{anyOf, placeFrom, aheadOf};
 ghost use Rattle.words.specs.Names.{isNameWord};
 ghost use Rattle.library.specs.Check.{directoryCount, deckCount, firstBad, okEntry, okDeckWord, row1, row2, row3, row4};
 ghost use Rattle.library_tables.specs.Found.{found, notWord, countFaults, Sized, Tabled};
@@ -116,21 +116,6 @@ pub(crate) fn tables_fault(image: &[u64]) -> Found
     Found::Nothing
 }
 
-// Whether w stands among the first n words of a table.
-fn stands(table: &[u64], n: usize, w: u64) -> bool
-    requires { ⌜ n ≤ length (now table) ⌝ }
-    ensures { λ r. ⌜ r ≡ member w (take n (now (table .entry))) ⌝ }
-{
-    let mut i = 0;
-    while i < n {
-        if table[i] == w {
-            return true;
-        }
-        i += 1;
-    }
-    false
-}
-
 fn is_name_word(w: u64) -> bool
     ensures { λ r. ⌜ r ≡ isNameWord w ⌝ }
 {
@@ -149,7 +134,7 @@ fn entry_ok(directory: &[u64], at: usize) -> bool
     if w == library::reserved_word() {
         return false;
     }
-    if stands(directory, at, w) {
+    if words_lists::stands(&directory[..at], w) {
         return false;
     }
     is_name_word(w)
@@ -177,10 +162,10 @@ fn deck_word_ok(directory: &[u64], decks: &[u64], at: usize) -> bool
     if at == 0 {
         return w == library::reserved_word();
     }
-    if !stands(directory, directory.len(), w) {
+    if !words_lists::stands(directory, w) {
         return false;
     }
-    if stands(decks, at, w) {
+    if words_lists::stands(&decks[..at], w) {
         return false;
     }
     is_name_word(w)

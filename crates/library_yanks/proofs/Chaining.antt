@@ -1,18 +1,16 @@
 -- Cards linked by their owners, the last first, and followed along the links. Assumes nothing.
---   clear-more, clear-all                                             no flag, no card
 --   Linking, link-start, link-more, link-end    each card goes ahead of its owner's others
 --   Following, follow-start, follow-more, follow-end    one owner's cards
 --   top-more, top-end, top-start, taken-words                         owners from the highest down
-use Prim.Native.Nat.{ℕ, suc, _+_, _-_, _≤_, _<_}
+use Prim.Native.Nat.{ℕ, suc, _-_, _≤_, _<_}
 use native.Mathlib.Omega.{arith}
-use native.Mathlib.Numerals.{add-one}
 use mathlib.Core.Path.{_≡_, refl, sym, ap, _∙_, subst}
 use mathlib.Core.Bool.{Bool, true, false}
-use mathlib.Core.List.{List, [], _∷_, _++_}
+use mathlib.Core.List.{List, [], _∷_}
 use borrow.Author.Tests.{eqb-true, eqb-false, leb-true}
 use lib.Dec.{eqb, leb}
-use lib.ListN.{length, getD, set, take, length-set, replicate-append-replicate}
-use lib.Seq.{take-suc-set, take-all, take-length, getD-set-same, getD-set-other}
+use lib.ListN.{length, getD, set, take, length-set}
+use lib.Seq.{take-all, take-length, getD-set-same, getD-set-other}
 use Rattle.words.specs.Base.{if_then_else_}
 use Rattle.library.specs.Each.{Each}
 use Rattle.library.proofs.EachTest.{each-map}
@@ -21,25 +19,6 @@ use Rattle.library_index.proofs.Zeros.{zeros, zeros-zero}
 use Rattle.library_image.specs.Places.{nextAt, seenAt, placesIn}
 use Rattle.library_yanks.specs.Flags.{onto, backward, owned, acted, actedAll, fromTop, Chain, Linked}
 use Rattle.library_image.proofs.CardPlaces.{next-inside, places-more, places-end}
-
--- CLEARED
-abbrev pub Cleared : List ℕ → List ℕ → ℕ → Type 0
-Cleared before now i = (length now ≡ length before) × ((i ≤ length before) × (take i now ≡ zeros i))
-
-module _ (before now : List ℕ) (i : ℕ) (inv : Cleared before now i) where
-  pub clear-more : i < length now → Cleared before (set now i 0) (i + 1)
-  clear-more h = (
-    length-set now i 0 ∙ inv .0,
-    (
-      omega (arith, h, inv .0),
-      ap (λ (k : ℕ). take k (set now i 0)) (add-one i) ∙ take-suc-set now i 0 h ∙ ap (λ (l : List ℕ). l ++ (0 ∷ [])) (inv .1 .1) ∙ replicate-append-replicate i 1 0,
-    ),
-  )
-
-  pub clear-all : length now ≤ i → now ≡ zeros (length before)
-  clear-all h =
-      let e : i ≡ length now = omega (arith, h, inv .0, inv .1 .0) in
-      sym (take-length now) ∙ ap (λ (k : ℕ). take k now) (sym e) ∙ inv .1 .1 ∙ ap zeros (e ∙ inv .0)
 
 -- CHAINS: a link of a place beyond leaves them
 module _ (ws link : List ℕ) (at v : ℕ) where

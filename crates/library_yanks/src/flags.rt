@@ -21,16 +21,6 @@ const OWNERS: usize = 1024;
 
 const HIGHEST: usize = 1023;
 
-fn clear(flags: &mut [u64])
-    ensures { λ _. ⌜ now (flags .exit) ≡ replicate (length (now (flags .entry))) 0 ⌝ }
-{
-    let mut i = 0;
-    while i < flags.len() {
-        flags[i] = 0;
-        i += 1;
-    }
-}
-
 // The card at a place goes ahead of its owner's other cards.
 fn put_link(first: &mut [u64], link: &mut [u64], owner: usize, at: usize)
     requires { ⌜ (at < length (now link)) × (at < 65536) ⌝ }
@@ -48,7 +38,7 @@ fn link_cards(cards: &[u64], first: &mut [u64], link: &mut [u64])
     requires { ⌜ (length (now cards) ≤ 65536) × (length (now cards) ≤ length (now link)) ⌝ }
     ensures { λ _. ⌜ Linked (now (cards .entry)) (now (first .exit)) (now (link .exit)) ⌝ }
 {
-    clear(first);
+    words_lists::clear(first);
     let mut at = 0;
     while at < cards.len() {
         let c = see(cards, at);
@@ -113,7 +103,7 @@ fn settle_linked(
     ensures { λ _. ⌜ now (flags .exit) ≡ fromTop (now (directory .entry)) (now (cards .entry)) (top (now (directory .entry))) (replicate (length (now (flags .entry))) 0) ⌝ }
 {
     link_cards(cards, first, link);
-    clear(flags);
+    words_lists::clear(flags);
     act_down(directory, ways, cards, first, link, flags);
 }
 

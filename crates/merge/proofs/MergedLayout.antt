@@ -11,10 +11,10 @@ use Rattle.library.specs.Check.{directoryCount, deckCount, directoryOf, deckWor
 use Rattle.library_raise.specs.Raised.{raisedWords}
 use Rattle.library_raise.proofs.RaisedLength.{raised-long}
 use Rattle.library_image_decks.specs.Decks.{deckEnd}
-use Rattle.library_store.proofs.StoredLibrary.{after-words}
-use Rattle.merge.specs.Words.{Laid, headerOf, tablesOf, mergedCards, yanksIn, decksIn, putAt}
+use Rattle.merge.specs.Words.{Laid, headerOf, tablesOf, mergedCards, yanksIn, decksIn}
+use Rattle.words_lists.specs.Over.{putAt}
 use Rattle.merge.specs.declared.parts.Parts.{Parts}
-use Rattle.merge.proofs.PutStretches.{put-then}
+use Rattle.words_lists.proofs.OverLists.{put-after, put-then}
 
 drop-take : (k : ℕ) (xs : List ℕ) → 0 < k → drop 1 (take k xs) ≡ take (k - 1) (drop 1 xs)
 drop-take zero xs pos = absurd (omega arith)
@@ -91,8 +91,8 @@ module _ (ws vs : List ℕ) (a b : Parts) (f : Laid ws a) (g : Laid vs b) where
       let at : 2 + length ds ≡ n = omega (arith, ds-long, f .names, g .names) in
       let long : length (hd ++ ds) ≡ n = length-append hd ds ∙ at in
       let all : n + length ns ≡ length (tablesOf ws vs) = omega (arith, at, length-append ds ns) in
-      ap (putAt n ns) (after-words hd e ds 2 refl ∙ ap (λ (k : ℕ). (hd ++ ds) ++ drop k e) at)
-      ∙ after-words (hd ++ ds) e ns n long
+      ap (putAt n ns) (put-after hd e ds 2 refl ∙ ap (λ (k : ℕ). (hd ++ ds) ++ drop k e) at)
+      ∙ put-after (hd ++ ds) e ns n long
       ∙ ap₂ (λ (l : List ℕ) (k : ℕ). l ++ drop k e) (append-assoc hd ds ns) all
 
   -- the cards of both, from the end of the tables on
@@ -111,5 +111,5 @@ module _ (ws vs : List ℕ) (a b : Parts) (f : Laid ws a) (g : Laid vs b) where
       let big : 3 ≤ a .cards + b .cards = omega (arith, f .cards, g .cards) in
       let m : more ≡ at + length ys = omega (arith, ly, f .yanks, g .yanks, big) in
       let fits : at + length ys + length zs ≤ length e = omega (arith, ly, lz, f .yanks, g .yanks, f .inside, g .inside, big) in
-      ap (λ (k : ℕ). putAt k zs (putAt at ys e)) m ∙ put-then at ys zs e fits
+      ap (λ (k : ℕ). putAt k zs (putAt at ys e)) m ∙ put-then at ys zs e (omega arith)
       ∙ ap₂ (λ (k j : ℕ). putAt k ((yanksIn ws ++ raisedWords j (yanksIn vs)) ++ (decksIn ws ++ raisedWords j (decksIn vs))) e) (start ∙ sym tables-long) same

@@ -1,7 +1,7 @@
 -- CODE. A merged image by the words of the two, and what each part of the code answers.
 --   places in an image       placesOf, Laid
 --   the merged words         yanksIn, decksIn, headerOf, tablesOf, mergedCards, mergedWords
---   words put into a space   putAt, raisedPart
+--   a stretch raised         raisedPart
 --   the answer               MergeAnswers, WithinBoth, MergesSound, MergesApart
 use Prim.Native.Nat.{ℕ, _+_, _-_, _^_, _≤_, _<_}
 use mathlib.Core.Path.{_≡_}
@@ -57,11 +57,7 @@ mergedCards ws vs =
 unfoldable pub mergedWords : List ℕ → List ℕ → List ℕ
 mergedWords ws vs = tablesOf ws vs ++ mergedCards ws vs
 
--- WORDS PUT INTO A SPACE, from a place on
-abbrev pub putAt : ℕ → List ℕ → List ℕ → List ℕ
-putAt at xs space = (take at space ++ xs) ++ drop (at + length xs) space
-
--- and a stretch of it raised
+-- A STRETCH of a space raised
 abbrev pub raisedPart : ℕ → ℕ → ℕ → List ℕ → List ℕ
 raisedPart from to n space = take from space ++ (raisedWords n (take (to - from) (drop from space)) ++ drop to space)
 

@@ -4,7 +4,8 @@ ghost use mathlib.Core.List.{_++_};
 ghost use Prim.Native.Nat.{_+_, _^_, _≤_, _<_};
 ghost use lib.ListN.{length, getD, drop};
 ghost use Rattle.library_raise.specs.Raised.{raisedWords};
-ghost use Rattle.merge.specs.Words.{Laid, headerOf, tablesOf, mergedCards, mergedWords, putAt, raisedPart};
+ghost use Rattle.merge.specs.Words.{Laid, headerOf, tablesOf, mergedCards, mergedWords, raisedPart};
+ghost use Rattle.words_lists.specs.Over.{putAt};
 use crate::parts::Parts;
 use library_tables::DIRECTORY;
 
@@ -13,21 +14,13 @@ const COUNTS: usize = 1;
 // What both have and the merged library has once: a header of two words, and YANK$$$ in the deck list.
 pub(crate) const TWICE: usize = 3;
 
-// From the place `at` on.
-fn put_at(space: &mut [u64], at: usize, words: &[u64])
-    requires { ⌜ at + length (now words) ≤ length (now space) ⌝ }
-    ensures { λ _. ⌜ now (space .exit) ≡ putAt at (now (words .entry)) (now (space .entry)) ⌝ }
-{
-    library_store::copy(&mut space[at..], words);
-}
-
 // A part of the first and that of the second.
 fn put_both(space: &mut [u64], at: usize, first: &[u64], second: &[u64])
     requires { ⌜ at + length (now first) + length (now second) ≤ length (now space) ⌝ }
     ensures { λ _. ⌜ now (space .exit) ≡ putAt at (now (first .entry) ++ now (second .entry)) (now (space .entry)) ⌝ }
 {
-    put_at(space, at, first);
-    put_at(space, at + first.len(), second);
+    words_lists::put_words(first, space, at);
+    words_lists::put_words(second, space, at + first.len());
 }
 
 fn raise_part(space: &mut [u64], from: usize, to: usize, n: u64)

@@ -5,38 +5,19 @@ use mathlib.Core.Path.{_≡_, refl, sym, ap, ap₂, _∙_}
 use mathlib.Core.Bool.{Bool, true, false, _||_, not}
 use mathlib.Core.List.{List, _∷_, map}
 use lib.Dec.{eqb}
-use lib.ListN.{length, take, drop, set, getD, List·getD-eq-default, drop-of-length-le}
+use lib.ListN.{length, take, drop, set, getD, drop-of-length-le}
 use lib.Seq.{drop-cons, getD-take, getD-set-same, getD-set-other}
 use Rattle.words.proofs.TestParts.{or-false, or-true}
 use Rattle.words.specs.Base.{member}
 use Rattle.library_yanks_bits.specs.SettledBits.{flagged}
+use Rattle.library_index.proofs.Zeros.{zeros, zeros-zero}
 use Rattle.run.specs.Loaded.{NoFlags}
 use Rattle.run_meaning.proofs.FlatFind.{compared, eqb-yes, eqb-no}
 
--- CLEARED up to the flag i
-abbrev pub Cleared : List ℕ → ℕ → Type 0
-Cleared flags i = (m : ℕ) → m < i → getD flags m 0 ≡ 0
-
-pub clear-start : (flags : List ℕ) → Cleared flags 0
-clear-start flags m lt = absurd (omega arith)
-
-pub clear-more : (flags : List ℕ) (i : ℕ) → i < length flags → Cleared flags i → Cleared (set flags i 0) (i + 1)
-clear-more flags i within h m lt =
-    compared (getD (set flags i 0) m 0 ≡ 0) m i
-    (λ a. getD-set-other flags i m 0 0 (λ e. omega arith) ∙ h m a)
-    (λ e. ap (λ (k : ℕ). getD (set flags i 0) k 0) e ∙ getD-set-same flags i 0 0 within)
-    (λ a. absurd (omega arith))
-
-pub clear-end : (flags : List ℕ) (i : ℕ) → length flags ≤ i → Cleared flags i → NoFlags flags
+-- cleared, no number is flagged
+pub no-flags : (n : ℕ) (flags : List ℕ) → flags ≡ zeros n → NoFlags flags
 unfolding flagged
-clear-end flags i le h m = ap (λ (k : ℕ). not (eqb k 0)) zero-at
-  where
-    zero-at : getD flags m 0 ≡ 0
-    zero-at =
-        compared (getD flags m 0 ≡ 0) m (length flags)
-        (λ a. h m (omega arith))
-        (λ e. List·getD-eq-default flags 0 {n = m} (omega arith))
-        (λ a. List·getD-eq-default flags 0 {n = m} (omega arith))
+no-flags n flags e m = ap (λ (k : ℕ). not (eqb k 0)) (ap (λ (l : List ℕ). getD l m 0) e ∙ zeros-zero n m)
 
 -- SET: the numbers `of` the names from i on are still to do
 abbrev pub StillFlags : (ℕ → ℕ) → List ℕ → List ℕ → ℕ → List ℕ → Type 0

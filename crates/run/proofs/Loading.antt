@@ -17,8 +17,8 @@ use Rattle.library.specs.Check.{good, check}
 use Rattle.library.specs.Sound.{noTwo, sameName, isEntry, SoundDeck, Sound}
 use Rattle.library.proofs.EachTest.{and-parts}
 use Rattle.library.proofs.EntryNames.{entry-name}
-use Rattle.library_store.specs.Stored.{over}
-use Rattle.library_store.proofs.StoredLibrary.{over-all}
+use Rattle.words_lists.specs.Over.{over}
+use Rattle.words_lists.proofs.OverLists.{over-all}
 use Rattle.run.specs.CardHeads.{Fits}
 use Rattle.run.specs.CardSeek.{indexOf}
 use Rattle.library.proofs.LimitsByCount.{words}
@@ -40,16 +40,16 @@ module _ (old : List ℕ) (l : Library) (ok : check old ≡ good l) where
   loaded-cards = cards-are old l ok ∙ cards-flat l
 
 -- COPIED to an array's start
-pub copied-part : (xs ys : List ℕ) (a k : ℕ) → a + k ≤ length xs → k ≤ length ys → over (take (a + k - a) (drop a xs)) ys ≡ take k (drop a xs) ++ drop k ys
+pub copied-part : (xs ys : List ℕ) (a k : ℕ) → a + k ≤ length xs → k ≤ length ys → over 0 (take (a + k - a) (drop a xs)) ys ≡ take k (drop a xs) ++ drop k ys
 copied-part xs ys a k inside room =
     let same : a + k - a ≡ k = omega arith in
     let long : length (take k (drop a xs)) ≡ k = length-take-le k (drop a xs) (omega (arith, length-drop a xs)) in
-    ap (λ (i : ℕ). over (take i (drop a xs)) ys) same ∙ over-all (take k (drop a xs)) ys (omega arith)
+    ap (λ (i : ℕ). over 0 (take i (drop a xs)) ys) same ∙ over-all (take k (drop a xs)) ys (omega arith)
     ∙ ap (λ (i : ℕ). take k (drop a xs) ++ drop i ys) long
 
-pub copied-rest : (xs ys : List ℕ) (a : ℕ) → length xs ≤ length ys → over (take (length xs - a) (drop a xs)) ys ≡ drop a xs ++ drop (length xs - a) ys
+pub copied-rest : (xs ys : List ℕ) (a : ℕ) → length xs ≤ length ys → over 0 (take (length xs - a) (drop a xs)) ys ≡ drop a xs ++ drop (length xs - a) ys
 copied-rest xs ys a room =
-    ap (λ (v : List ℕ). over v ys) (take-all (length xs - a) (drop a xs) (omega (arith, length-drop a xs)))
+    ap (λ (v : List ℕ). over 0 v ys) (take-all (length xs - a) (drop a xs) (omega (arith, length-drop a xs)))
     ∙ over-all (drop a xs) ys (omega (arith, length-drop a xs)) ∙ ap (λ (i : ℕ). drop a xs ++ drop i ys) (length-drop a xs)
 
 -- COUNTED: no card is owned by 0

@@ -2,11 +2,10 @@
 use Prim.Native.Nat.{ℕ, suc, _+_, _-_, _*_, _^_, _≤_, _<_}
 use native.Mathlib.Omega.{arith}
 use native.Mathlib.Numerals.{add-one}
-use mathlib.Core.Path.{_≡_, sym, ap, ap₂, _∙_}
+use mathlib.Core.Path.{_≡_, sym, ap, _∙_}
 use mathlib.Core.Bool.{Bool, true, false}
-use mathlib.Core.List.{List, [], _∷_, _++_, append-assoc, append-nil}
-use borrow.Rule.Slice.PartMut.{midOf, putMid, post-is, mid-len}
-use lib.ListN.{length, take, drop, set, length-append, length-set, length-drop, drop-of-length-le}
+use mathlib.Core.List.{List, [], _∷_, _++_, append-assoc}
+use lib.ListN.{length, take, drop, set, length-append, length-set, length-drop}
 use lib.Seq.{length-take-le, take-suc-set, drop-set-lt, take-paste, drop-paste, paste, drop-drop}
 use Rattle.run.proofs.Walking.{cards-snoc}
 use Rattle.run.proofs.Locating.{each-append}
@@ -15,8 +14,8 @@ use Rattle.words.specs.Text.{textWords}
 use Rattle.library.specs.Library.{Card}
 use Rattle.library.specs.Yanks.{active}
 use Rattle.library.specs.Image.{bit, cardWords, cardsWords}
-use Rattle.library_store.specs.Stored.{over}
-use Rattle.library_store.proofs.StoredLibrary.{over-all}
+use Rattle.words_lists.specs.Over.{over}
+use Rattle.words_lists.proofs.OverLists.{over-put}
 use Rattle.run.specs.CardHeads.{cardOf, Fits}
 use Rattle.run.specs.GapWords.{Ordered, Parted}
 use Rattle.run.specs.ByteMarks.{Puts}
@@ -37,17 +36,6 @@ new-words yk line seq n out =
   where
     sum : (k : ℕ) → 2 ^ 59 + 2 ^ 58 + k * 2 ^ 36 + seq * 2 ^ 18 + (0 + 2 ^ 16 + n) ≡ newHead k seq n
     sum k = omega arith
-
--- words copied into a part that has as many
-abbrev pub copied : ℕ → ℕ → List ℕ → List ℕ → List ℕ
-copied a e v s = putMid a (e - a) v (over s (midOf a (e - a) v))
-
-copied-is : (v s : List ℕ) (a k : ℕ) → length s ≡ k → a + k ≤ length v → copied a (a + k) v s ≡ take a v ++ s ++ drop (a + k) v
-copied-is v s a k e inside =
-    let mid : List ℕ = midOf a (a + k - a) v in
-    let long : length mid ≡ k = mid-len a (a + k) v inside ∙ omega arith in
-    let all : over s mid ≡ s = over-all s mid (omega arith) ∙ ap (λ (r : List ℕ). s ++ r) (drop-of-length-le mid {i = length s} (omega arith)) ∙ append-nil s in
-    ap₂ (λ (x y : List ℕ). take a v ++ (x ++ y)) all (post-is a (a + k) v (omega arith)) ∙ sym (append-assoc (take a v) s (drop (a + k) v))
 
 -- the first k words of the lent text
 module _ (w : List ℕ) (g : Gap) (lent : List ℕ) (k seq n : ℕ) (order : Ordered w g) (has : k ≤ length lent) where
@@ -100,11 +88,11 @@ module _ (w : List ℕ) (g : Gap) (lent : List ℕ) (k seq n : ℕ) (order : Ord
       })
 
   -- the text copied into the part behind the head
-  pub put-copied : g .lo + 1 + k ≤ g .hi → Puts w g text seq n (copied (g .lo + 1) (g .lo + 1 + k) (set w (g .lo) (newHead k seq n)) text) new
+  pub put-copied : g .lo + 1 + k ≤ g .hi → Puts w g text seq n (over (g .lo + 1) text (set w (g .lo) (newHead k seq n))) new
   put-copied room =
       let w1 : List ℕ = set w (g .lo) (newHead k seq n) in
       let len : length w1 ≡ length w = length-set w (g .lo) (newHead k seq n) in
-      rw (copied-is w1 text (g .lo + 1) k text-long (omega arith)) (put-done room)
+      rw (over-put (g .lo + 1) text w1 (omega (arith, text-long)), text-long) (put-done room)
 
   -- of the library in work
   pub work-put : k ≤ 16 → seq < 262144 → n < 65536 → (v : List ℕ) (h : Gap) → Puts w g text seq n v h → PutsCard w g text seq n v h

@@ -1,17 +1,17 @@
 -- A unit begins: a known name is refused; a new one stands at the directory's end, and nothing else changes.
-use Prim.Native.Nat.{ℕ, suc, _+_, _-_, _≤_, _<_}
+use Prim.Native.Nat.{ℕ, _+_, _-_, _≤_}
 use native.Mathlib.Omega.{arith}
 use native.Mathlib.Numerals.{add-one}
-use mathlib.Core.Path.{_≡_, refl, sym, ap, ap₂, _∙_, subst}
+use mathlib.Core.Path.{_≡_, refl, sym, ap, _∙_, subst}
 use mathlib.Core.Bool.{Bool, true, false, not}
 use mathlib.Core.List.{List, [], _∷_, _++_}
 use lib.Dec.{T}
-use lib.ListN.{length, getD, take, drop, set, length-append, drop-of-length-le}
-use lib.Seq.{take-suc-set, drop-cons, getD-take, length-take-le}
-use Rattle.words.specs.Base.{if_then_else_, all}
+use lib.ListN.{length, take, set, length-append}
+use lib.Seq.{take-suc-set}
+use Rattle.words.specs.Base.{all}
 use Rattle.words_lines.specs.Directive.{directive}
 use Rattle.words_lines.specs.declared.Line.the-variants.{Ident}
-use Rattle.library.specs.Library.{Card, Library, deckNames, reserved, entryFrom}
+use Rattle.library.specs.Library.{Card, Library, deckNames, reserved}
 use Rattle.library.specs.Yanks.{yanked}
 use Rattle.library.specs.Image.{cardsWords, shortHistory}
 use Rattle.library.specs.Sound.{Sound}
@@ -27,33 +27,9 @@ use Rattle.run.specs.declared.desk.Desk.{Desk}
 use Rattle.run.specs.declared.desk.TextAt.the-variants.{Nowhere as TextNowhere}
 use Rattle.run.specs.declared.desk.Stepped.the-variants.{Refused as SteppedOff}
 use Rattle.run_meaning.specs.declared.Why.the-variants.{Known}
-use Rattle.run_meaning.proofs.FlatFind.{eqb-yes, eqb-no}
 use Rattle.run_meaning.proofs.FlatStream.{entry-flat}
 use Rattle.run_meaning.proofs.FlatFlags.{flags-entry}
 use Rattle.run.proofs.Stepping.{work-words, Counted, limited-answer, fitted-sane}
-
--- THE DIRECTORY LOOKED THROUGH, from place i on
-module _ (w : ℕ) (dir : List ℕ) (n i : ℕ) (inside : n ≤ length dir) where
-  cut : i < n → drop i (take n dir) ≡ getD dir i 0 ∷ drop (i + 1) (take n dir)
-  cut lt =
-      let m : length (take n dir) ≡ n = length-take-le n dir inside in
-      drop-cons (take n dir) i 0 (omega arith)
-      ∙ ap₂ {C = List ℕ} (λ (a : ℕ) (r : List ℕ). a ∷ r) (getD-take n dir i 0 lt) (ap (λ (k : ℕ). drop k (take n dir)) (sym (add-one i)))
-
-  pub entry-here : i < n → getD dir i 0 ≡ w → entryFrom w (i + 1) (drop i (take n dir)) ≡ i + 1
-  entry-here lt e = ap (entryFrom w (i + 1)) (cut lt) ∙ ap (λ (b : Bool). if b then (i + 1) else entryFrom w (suc (i + 1)) (drop (i + 1) (take n dir))) (eqb-yes w (getD dir i 0) (sym e))
-
-  pub entry-on : i < n → (getD dir i 0 ≡ w → ⊥) → entryFrom w (i + 1) (drop i (take n dir)) ≡ entryFrom w (i + 1 + 1) (drop (i + 1) (take n dir))
-  entry-on lt ne =
-      ap (entryFrom w (i + 1)) (cut lt)
-      ∙ ap (λ (b : Bool). if b then (i + 1) else entryFrom w (suc (i + 1)) (drop (i + 1) (take n dir))) (eqb-no w (getD dir i 0) (λ e. ne (sym e)))
-      ∙ ap (λ (k : ℕ). entryFrom w k (drop (i + 1) (take n dir))) (sym (add-one (i + 1)))
-
-  pub entry-none : n ≤ i → entryFrom w (i + 1) (drop i (take n dir)) ≡ 0
-  entry-none le =
-      let m : length (take n dir) ≡ n = length-take-le n dir inside in
-      let k : length (take n dir) ≤ i = omega arith in
-      ap (entryFrom w (i + 1)) (drop-of-length-le (take n dir) k)
 
 -- 25
 pub known-is : (l : Library) (directory : List ℕ) (w : ℕ) (b : Bool) → directory ≡ l .directory → unknownIn directory w ≡ b → isKnown l w ≡ not b

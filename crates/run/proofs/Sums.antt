@@ -73,12 +73,6 @@ module _ (lo hi n : ℕ) (p : lo ≤ hi) (q : hi ≤ n) (r : n ≤ 65536) where
   pub head-below : (k : ℕ) → lo + 1 + k ≤ hi → lo < n
   head-below k t = omega arith
 
-  pub text-below : (k : ℕ) → lo + 1 + k ≤ hi → lo + 1 ≤ n
-  text-below k t = omega arith
-
-pub words-follow : (lo k : ℕ) → lo + 1 ≤ lo + 1 + k
-words-follow lo k = omega arith
-
 module _ (k seq n : ℕ) (p : k ≤ 16) (q : seq < 262144) (r : n < 65536) where
   pub count-fits : Fits w64 (k * 68719476736)
   count-fits = record { fits = omega arith }

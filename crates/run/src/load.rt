@@ -5,7 +5,7 @@ ghost use mathlib.Core.List.{_++_};
 ghost use lib.ListN.{length, take, drop};
 ghost use Rattle.run.specs.Desk.{Sane};
 ghost use Rattle.library.specs.Readable.{Readable};
-ghost use Rattle.run.specs.Loaded.{NoFlags, FlagsDecks, FindsTitle, Loads};
+ghost use Rattle.run.specs.Loaded.{FlagsDecks, FindsTitle, Loads};
 use crate::card::FIELD;
 use crate::card::see;
 use crate::desk::Desk;
@@ -17,23 +17,12 @@ use crate::seek::Place;
 use crate::seek::find;
 use crate::starts::entry_of;
 
-// No number is flagged.
-fn clear(flags: &mut [u64])
-    ensures { λ _. ⌜ NoFlags (now (flags .exit)) ⌝ }
-{
-    let mut i: usize = 0;
-    while i < flags.len() {
-        flags[i] = 0;
-        i += 1;
-    }
-}
-
 // The numbers of the names after the first of k: YANK$$$ has none.
 fn flag_decks(dir: &[u64], n: usize, names: &[u64], k: usize, flags: &mut [u64])
     requires { ⌜ (n ≤ length (now dir)) × ((k ≤ length (now names)) × (n < length (now flags))) ⌝ }
     ensures { λ _. ⌜ FlagsDecks (now (dir .entry)) n (now (names .entry)) k (now (flags .exit)) ⌝ }
 {
-    clear(flags);
+    words_lists::clear(flags);
     let mut i: usize = 1;
     while i < k {
         let e = entry_of(dir, n, names[i]);
@@ -72,9 +61,9 @@ fn load_words(old: &[u64], n: usize, k: usize, w: &mut [u64], dir: &mut [u64], n
 {
     let at = 2 + n;
     let end = at + k;
-    library_store::copy(dir, &old[2..at]);
-    library_store::copy(names, &old[at..end]);
-    library_store::copy(w, &old[end..]);
+    words_lists::put_words(&old[2..at], dir, 0);
+    words_lists::put_words(&old[at..end], names, 0);
+    words_lists::put_words(&old[end..], w, 0);
 }
 
 // The library in work at the start of a run: the gap is behind the cards, no unit has begun, and text goes nowhere.

@@ -25,7 +25,7 @@ pub(crate) fn put_card(w: &mut [u64], g: Gap, text: &[u64], k: usize, seq: u64, 
         };
     }
     w[lo] = LAST + ACTIVE + k as u64 * UPPER + seq * FIELD + ACTIVATING + n;
-    library_store::copy(&mut w[lo + 1..lo + 1 + k], &text[..k]);
+    words_lists::put_words(&text[..k], w, lo + 1);
     Gap {
         lo: lo + 1 + k,
         hi: hi,

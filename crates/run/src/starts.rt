@@ -20,14 +20,7 @@ pub(crate) fn entry_of(dir: &[u64], n: usize, w: u64) -> usize
     ensures { λ r. ⌜ r ≤ n ⌝ }
     ensures { λ r. ⌜ r ≡ entryOf (take n (now (dir .entry))) w ⌝ }
 {
-    let mut i = 0;
-    while i < n {
-        if dir[i] == w {
-            return i + 1;
-        }
-        i += 1;
-    }
-    0
+    library_index::entry_of(&dir[..n], w)
 }
 
 // Whether a name is not known, by the n entries of the directory: YANK$$$ always is.

@@ -2,7 +2,7 @@
 ghost use mathlib.Core.Path.{_≡_};
 ghost use Prim.Native.Nat.{_+_, _≤_, _<_};
 ghost use lib.ListN.{length, take};
-ghost use Rattle.words.specs.Base.{any, member};
+ghost use Rattle.words.specs.Base.{any};
 ghost use Rattle.run.specs.Desk.{Sane, SaneAfter};
 ghost use Rattle.run.specs.Resettled.{Resettled, YankSteps};
 ghost use Rattle.run.specs.YankNames.{namesIn, unknownIn, noSetIn, LeadAfter, PutsYank};
@@ -18,27 +18,12 @@ use crate::texts::put_line;
 use run_meaning::Why;
 use words_lines::NameStep;
 
-// Whether w stands among the first n words of a list.
-fn stands(list: &[u64], n: usize, w: u64) -> bool
-    requires { ⌜ n ≤ length (now list) ⌝ }
-    ensures { λ r. ⌜ r ≡ member w (take n (now (list .entry))) ⌝ }
-{
-    let mut i = 0;
-    while i < n {
-        if list[i] == w {
-            return true;
-        }
-        i += 1;
-    }
-    false
-}
-
 // 27 of one name: a deck's, YANK$$$, or that of the set itself, which is the directory's last.
 fn is_no_set(dir: &[u64], n: usize, names: &[u64], k: usize, w: u64) -> bool
     requires { ⌜ (n ≤ length (now dir)) × (k ≤ length (now names)) ⌝ }
     ensures { λ r. ⌜ r ≡ noSetIn n (take n (now (dir .entry))) (take k (now (names .entry))) w ⌝ }
 {
-    if stands(names, k, w) {
+    if words_lists::stands(&names[..k], w) {
         return true;
     }
     entry_of(dir, n, w) == n

@@ -4,7 +4,6 @@ ghost use Prim.Native.Nat.{_+_, _-_, _/_, _%_, _^_, _≤_, _<_};
 ghost use lib.ListN.{length, drop};
 ghost use Rattle.words.specs.Names.{numberRead, numeral};
 ghost use Rattle.words.specs.Spelt.{wordOfName, nameLength, nameInto, numberFits, numberInto};
-use crate::columns::put_bytes;
 use crate::columns::put_gap;
 use words::BASE;
 use words::BITS;
@@ -169,6 +168,6 @@ pub fn put_number(n: u64, field: &mut [u8]) -> bool
     }
     let gap = field.len() - count;
     put_gap(gap, field);
-    put_bytes(&digits[start..], field, gap);
+    words_lists::put_bytes(&digits[start..], field, gap);
     true
 }

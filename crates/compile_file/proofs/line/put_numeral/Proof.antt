@@ -8,7 +8,8 @@ use lib.ListN.{length, take, drop, replicate, length-drop}
 use lib.Seq.{take-all}
 use Rattle.words.specs.Display.{blank}
 use Rattle.words.specs.Names.{numeral}
-use Rattle.compile_file.specs.Written.{written, afterBlanks}
+use Rattle.compile_file.specs.Written.{afterBlanks}
+use Rattle.words_lists.specs.Over.{putAt}
 use Rattle.compile_file.proofs.RefusalLine.{numeral-few, field-numeral}
 use Rattle.compile_file.proofs.line.put_numeral.Statement.{statement}
 use Rattle.compile_file.proofs.line.put_numeral.Tie as tie
@@ -50,7 +51,7 @@ returns c =
     let k = 20 - d .result in
     let all : take k (drop (d .result) f) ≡ drop (d .result) f = take-all k (drop (d .result) f) (omega (arith, length-drop (d .result) f, p .kept .1 .0)) in
     let e : take k (drop (d .result) f) ≡ numeral (a .n) = all ∙ d .ensures .1 ∙ ap afterBlanks (p .ensures .1) ∙ field-numeral (a .n) (replicate 20 blank) refl in
-    ((omega (arith, t .ensures .0, ap length e), omega (arith, t .ensures .0, ap length e, numeral-few (a .n))), t .ensures .1 ∙ ap (λ (x : List ℕ). written x (a .at) (a .out .now)) e)
+    ((omega (arith, t .ensures .0, ap length e), omega (arith, t .ensures .0, ap length e, numeral-few (a .n))), t .ensures .1 ∙ ap (λ (x : List ℕ). putAt (a .at) x (a .out .now)) e)
 
 pub put-numeral-spec : {M : Type 1} → statement M
 put-numeral-spec =

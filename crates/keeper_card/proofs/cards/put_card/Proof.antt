@@ -1,6 +1,8 @@
 -- The name, the point and the digits fill the space to the end that was counted. Assumes nothing.
 use native.Mathlib.Omega.{arith}
 use lib.ListN.{length, length-set}
+use mathlib.Core.Path.{_∙_}
+use Rattle.words_lists.proofs.OverLists.{over-put}
 use Rattle.keeper_card.proofs.PointedName.{too-short, put-pointed, pointed-answers}
 use borrow.Author.Needs.{needs}
 use Rattle.keeper_card.proofs.cards.put_card.Statement.{statement}
@@ -56,7 +58,7 @@ returns-2 c =
     let d = k .ensures .1 in
     let fits = c .before .before .before .before .before .before .before .before .if1 .left in
     pointed-answers (a .name .now) (a .out .now) (a .seq) (k .result) d fits _
-    (put-pointed (a .name .now) (a .out .now) (a .seq) (k .result) d fits _ _ (c .before .before .before .before .before .before .put-bytes .ensures) (c .before .before .put-number .ensures .1))
+    (put-pointed (a .name .now) (a .out .now) (a .seq) (k .result) d fits _ _ (c .before .before .before .before .before .before .put-bytes .ensures ∙ over-put 0 (a .name .now) (a .out .now) (omega arith)) (c .before .before .put-number .ensures .1))
 
 pub put-card-spec : {M : Type 1} → statement M
 put-card-spec =

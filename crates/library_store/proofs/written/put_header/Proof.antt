@@ -3,7 +3,7 @@ use Prim.Native.Nat.{ℕ, _+_, _*_, _^_}
 use mathlib.Core.Path.{_∙_, ap}
 use mathlib.Core.List.{List, _∷_}
 use lib.ListN.{drop}
-use Rattle.library_store.proofs.StoredLibrary.{head-two}
+use Rattle.words_lists.proofs.OverLists.{head-two}
 use borrow.Author.Needs.{needs}
 use Rattle.library_store.proofs.written.put_header.Statement.{statement}
 use Rattle.library_store.proofs.written.put_header.Tie as tie

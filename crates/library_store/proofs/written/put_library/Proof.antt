@@ -3,13 +3,13 @@ use Prim.Native.Nat.{ℕ, _+_}
 use mathlib.Core.Path.{ap, _∙_}
 use mathlib.Core.List.{List}
 use lib.ListN.{length}
-use Rattle.library_store.proofs.StoredLibrary.{put, library-written}
+use Rattle.library_store.proofs.StoredLibrary.{library-written}
+use Rattle.words_lists.specs.Over.{over}
 use borrow.Author.Needs.{needs}
 use Rattle.library_store.proofs.written.put_library.Statement.{statement}
 use Rattle.library_store.proofs.written.put_library.Tie as tie
 use Rattle.library_store.proofs.written.put_library.Reads as reads
 use Rattle.library_store.proofs.written.put_library.Lts as lts
-use Rattle.library_store.proofs.copied.put_words.Reads as put-words-reads
 use Rattle.library_store.proofs.written.put_header.Reads as put-header-reads
 
 add-cards : tie.Need-add-cards
@@ -49,11 +49,11 @@ returns c =
     let k = length (a .decks .now) in
     let lo = length (a .low .now) in
     c .before .before .put-words4 .ensures
-    ∙ ap (λ (v : List ℕ). put v (a .high .now) (2 + n + k + lo)) (c .before .before .before .before .before .before .put-words3 .ensures)
-    ∙ ap (λ (v : List ℕ). put (put v (a .low .now) (2 + n + k)) (a .high .now) (2 + n + k + lo)) (c .before .before .before .before .before .before .before .before .before .before .put-words2 .ensures)
-    ∙ ap (λ (v : List ℕ). put (put (put v (a .decks .now) (2 + n)) (a .low .now) (2 + n + k)) (a .high .now) (2 + n + k + lo)) (c .before .before .before .before .before .before .before .before .before .before .before .before .before .before .put-words .ensures)
-    ∙ ap (λ (v : List ℕ). put (put (put (put v (a .directory .now) 2) (a .decks .now) (2 + n)) (a .low .now) (2 + n + k)) (a .high .now) (2 + n + k + lo)) (c .before .before .before .before .before .before .before .before .before .before .before .before .before .before .before .before .before .before .put-header .ensures)
-    ∙ library-written (a .directory .now) (a .decks .now) (a .low .now) (a .high .now) (a .space .now)
+    ∙ ap (over (2 + n + k + lo) (a .high .now)) (c .before .before .before .before .before .before .put-words3 .ensures)
+    ∙ ap (λ (v : List ℕ). over (2 + n + k + lo) (a .high .now) (over (2 + n + k) (a .low .now) v)) (c .before .before .before .before .before .before .before .before .before .before .put-words2 .ensures)
+    ∙ ap (λ (v : List ℕ). over (2 + n + k + lo) (a .high .now) (over (2 + n + k) (a .low .now) (over (2 + n) (a .decks .now) v))) (c .before .before .before .before .before .before .before .before .before .before .before .before .before .before .put-words .ensures)
+    ∙ ap (λ (v : List ℕ). over (2 + n + k + lo) (a .high .now) (over (2 + n + k) (a .low .now) (over (2 + n) (a .decks .now) (over 2 (a .directory .now) v)))) (c .before .before .before .before .before .before .before .before .before .before .before .before .before .before .before .before .before .before .put-header .ensures)
+    ∙ library-written (a .directory .now) (a .decks .now) (a .low .now) (a .high .now) (a .space .now) (c .before .before .before .before .before .before .before .before .before .before .before .before .before .before .before .before .before .before .before .before .before .before .before .before .before .pre .1 .1)
 
 pub put-library-spec : {M : Type 1} → statement M
 put-library-spec =

@@ -2,8 +2,8 @@
 use mathlib.Core.Path.{sym, ap, _∙_}
 use borrow.Author.Tests.{not-true, not-false}
 use lib.ListN.{getD}
-use lib.Seq.{take-length}
-use Rattle.words.specs.Base.{member, isNil}
+use lib.Seq.{length-take-le}
+use Rattle.words.specs.Base.{isNil}
 use lib.Dec.{eqb}
 use Prim.Native.Nat.{ℕ}
 use Rattle.words.specs.Base.{aheadOf}
@@ -36,16 +36,21 @@ returns-2 c =
     let a = c .before .before .before .before .before .before .args in
     let w = getD (a .decks .now) (a .at) 0 in
     sym (deck-unknown (a .directory .now) (aheadOf (a .at) (a .decks .now)) w (some-ahead (a .at) (a .decks .now) (c .before .before .if1 .left))
-    (ap (member w) (sym (take-length (a .directory .now))) ∙ sym (c .before .stands .ensures) ∙ not-true _ (c .if2 .taken)))
+    (sym (c .before .stands .ensures) ∙ not-true _ (c .if2 .taken)))
+
+slice-aggregate-stands : tie.Need-slice-aggregate-stands
+slice-aggregate-stands c =
+    let a = c .before .before .before .before .before .before .before .args in
+    sym (length-take-le (a .at) (a .decks .now) (search needs))
 
 stands-requires-2 : tie.Need-stands-requires-2
 stands-requires-2 c κs = search needs
 
 returns-3 : tie.Need-returns-3
 returns-3 c =
-    let a = c .before .before .before .before .before .before .before .before .args in
+    let a = c .before .before .before .before .before .before .before .before .before .args in
     let w = getD (a .decks .now) (a .at) 0 in
-    sym (deck-twice (a .directory .now) (aheadOf (a .at) (a .decks .now)) w (some-ahead (a .at) (a .decks .now) (c .before .before .before .before .if1 .left))
+    sym (deck-twice (a .directory .now) (aheadOf (a .at) (a .decks .now)) w (some-ahead (a .at) (a .decks .now) (c .before .before .before .before .before .if1 .left))
     (stands-ahead w (a .at) (a .decks .now) (search needs) ∙ sym (c .before .stands2 .ensures) ∙ c .if3 .taken))
 
 is-name-word-requires : tie.Need-is-name-word-requires
@@ -53,11 +58,11 @@ is-name-word-requires c κs = search needs
 
 returns-4 : tie.Need-returns-4
 returns-4 c =
-    let a = c .before .before .before .before .before .before .before .before .before .args in
+    let a = c .before .before .before .before .before .before .before .before .before .before .args in
     let w = getD (a .decks .now) (a .at) 0 in
     c .is-name-word .ensures
-    ∙ sym (deck-name (a .directory .now) (aheadOf (a .at) (a .decks .now)) w (some-ahead (a .at) (a .decks .now) (c .before .before .before .before .before .if1 .left))
-    (ap (member w) (sym (take-length (a .directory .now))) ∙ sym (c .before .before .before .before .stands .ensures) ∙ not-false _ (c .before .before .before .if2 .left))
+    ∙ sym (deck-name (a .directory .now) (aheadOf (a .at) (a .decks .now)) w (some-ahead (a .at) (a .decks .now) (c .before .before .before .before .before .before .if1 .left))
+    (sym (c .before .before .before .before .before .stands .ensures) ∙ not-false _ (c .before .before .before .before .if2 .left))
     (stands-ahead w (a .at) (a .decks .now) (search needs) ∙ sym (c .before .before .stands2 .ensures) ∙ c .before .if3 .left))
 
 pub deck-word-ok-spec : {M : Type 1} → statement M
@@ -70,6 +75,7 @@ deck-word-ok-spec =
     returns
     stands-requires
     returns-2
+    slice-aggregate-stands
     stands-requires-2
     returns-3
     is-name-word-requires

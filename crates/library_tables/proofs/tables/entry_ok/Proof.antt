@@ -3,6 +3,7 @@ use mathlib.Core.Path.{sym, _∙_}
 use Rattle.words.specs.Base.{aheadOf}
 use Rattle.library_tables.proofs.TableWords.{stands-ahead, entry-purged, entry-reserved, entry-twice, entry-name}
 use lib.ListN.{getD}
+use lib.Seq.{length-take-le}
 use borrow.Author.Needs.{needs}
 use Rattle.library_tables.proofs.tables.entry_ok.Statement.{statement}
 use Rattle.library_tables.proofs.tables.entry_ok.Tie as tie
@@ -26,14 +27,19 @@ returns-2 c =
     let a = c .before .before .before .before .before .args in
     sym (entry-reserved (aheadOf (a .at) (a .directory .now)) _ (c .before .before .if1 .left) (c .if2 .taken ∙ c .before .reserved-word .ensures))
 
+slice-aggregate-stands : tie.Need-slice-aggregate-stands
+slice-aggregate-stands c =
+    let a = c .before .before .before .before .before .before .args in
+    sym (length-take-le (a .at) (a .directory .now) (search needs))
+
 stands-requires : tie.Need-stands-requires
 stands-requires c κs = search needs
 
 returns-3 : tie.Need-returns-3
 returns-3 c =
-    let a = c .before .before .before .before .before .before .before .args in
+    let a = c .before .before .before .before .before .before .before .before .args in
     let w = getD (a .directory .now) (a .at) 0 in
-    sym (entry-twice (aheadOf (a .at) (a .directory .now)) w (c .before .before .before .before .if1 .left)
+    sym (entry-twice (aheadOf (a .at) (a .directory .now)) w (c .before .before .before .before .before .if1 .left)
     (stands-ahead w (a .at) (a .directory .now) (search needs) ∙ sym (c .before .stands .ensures) ∙ c .if3 .taken))
 
 is-name-word-requires : tie.Need-is-name-word-requires
@@ -41,10 +47,10 @@ is-name-word-requires c κs = search needs
 
 returns-4 : tie.Need-returns-4
 returns-4 c =
-    let a = c .before .before .before .before .before .before .before .before .args in
+    let a = c .before .before .before .before .before .before .before .before .before .args in
     let w = getD (a .directory .now) (a .at) 0 in
-    c .is-name-word .ensures ∙ sym (entry-name (aheadOf (a .at) (a .directory .now)) w (c .before .before .before .before .before .if1 .left)
-    (λ e. c .before .before .before .if2 .left (e ∙ sym (c .before .before .before .before .reserved-word .ensures)))
+    c .is-name-word .ensures ∙ sym (entry-name (aheadOf (a .at) (a .directory .now)) w (c .before .before .before .before .before .before .if1 .left)
+    (λ e. c .before .before .before .before .if2 .left (e ∙ sym (c .before .before .before .before .before .reserved-word .ensures)))
     (stands-ahead w (a .at) (a .directory .now) (search needs) ∙ sym (c .before .before .stands .ensures) ∙ c .before .if3 .left))
 
 pub entry-ok-spec : {M : Type 1} → statement M
@@ -56,6 +62,7 @@ entry-ok-spec =
     returns
     reserved-word-requires
     returns-2
+    slice-aggregate-stands
     stands-requires
     returns-3
     is-name-word-requires

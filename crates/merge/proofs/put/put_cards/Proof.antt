@@ -5,7 +5,7 @@ use mathlib.Core.Path.{refl, ap, _∙_}
 use mathlib.Core.List.{List, _++_}
 use lib.ListN.{length, take, drop}
 use Rattle.library_raise.specs.Raised.{raisedWords}
-use Rattle.merge.specs.Words.{putAt}
+use Rattle.words_lists.specs.Over.{putAt}
 use Rattle.merge.proofs.MergedLayout.{yanks-part, decks-part, yanks-long, cards-laid}
 use borrow.Author.Needs.{needs}
 use Rattle.merge.proofs.put.put_cards.Statement.{statement}

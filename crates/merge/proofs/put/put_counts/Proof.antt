@@ -1,5 +1,5 @@
 -- Both words are written over the first two.
-use Rattle.library_store.proofs.StoredLibrary.{head-two}
+use Rattle.words_lists.proofs.OverLists.{head-two}
 use borrow.Author.Needs.{needs}
 use Rattle.merge.proofs.put.put_counts.Statement.{statement}
 use Rattle.merge.proofs.put.put_counts.Tie as tie

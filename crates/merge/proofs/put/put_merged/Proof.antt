@@ -3,7 +3,8 @@ use mathlib.Core.Path.{ap, _∙_}
 use mathlib.Core.List.{List}
 use Prim.Native.Nat.{ℕ}
 use lib.ListN.{length}
-use Rattle.merge.specs.Words.{tablesOf, mergedCards, mergedWords, putAt}
+use Rattle.merge.specs.Words.{tablesOf, mergedCards, mergedWords}
+use Rattle.words_lists.specs.Over.{putAt}
 use Rattle.merge.proofs.PutStretches.{put-last}
 use borrow.Author.Needs.{needs}
 use Rattle.merge.proofs.put.put_merged.Statement.{statement}

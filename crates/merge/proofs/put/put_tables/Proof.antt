@@ -3,7 +3,8 @@ use Prim.Native.Nat.{ℕ, _+_, _-_}
 use mathlib.Core.Path.{refl, ap, _∙_}
 use mathlib.Core.List.{List, _++_}
 use lib.ListN.{take, drop}
-use Rattle.merge.specs.Words.{headerOf, putAt}
+use Rattle.merge.specs.Words.{headerOf}
+use Rattle.words_lists.specs.Over.{putAt}
 use Rattle.merge.proofs.MergedLayout.{directory-part, list-part, rest-part, tables-laid}
 use borrow.Author.Needs.{needs}
 use Rattle.merge.proofs.put.put_tables.Statement.{statement}

@@ -5,13 +5,12 @@ use mathlib.Core.Path.{_≡_, refl, _∙_}
 use lib.ListN.{length, take, length-set}
 use Rattle.library.specs.Library.{entryOf}
 use Rattle.run.specs.Loaded.{listedNumbers}
-use Rattle.run.proofs.Flagging.{StillFlags, flag-start, flag-more, flag-end}
+use Rattle.run.proofs.Flagging.{StillFlags, no-flags, flag-start, flag-more, flag-end}
 use borrow.Author.Needs.{needs}
 use Rattle.run.proofs.load.flag_decks.Statement.{statement}
 use Rattle.run.proofs.load.flag_decks.Tie as tie
 use Rattle.run.proofs.load.flag_decks.Reads as reads
 use Rattle.run.proofs.load.flag_decks.Lts as lts
-use Rattle.run.proofs.load.clear.Reads as clear-reads
 use Rattle.run.proofs.starts.entry_of.Reads as entry-of-reads
 
 abbrev Inv-loop : tie.InvT-loop
@@ -27,7 +26,7 @@ loop-holds : tie.Need-loop-holds Inv-loop μ-loop
 loop-holds c =
     let a = c .before .before .before .before .before .before .before .args in
     let p = c .before .before .clear in
-    (refl, flag-start (entryOf (take (a .n) (a .dir .now))) (take (a .k) (a .names .now)) 1 (p .last .0) (p .ensures))
+    (refl, flag-start (entryOf (take (a .n) (a .dir .now))) (take (a .k) (a .names .now)) 1 (p .last .0) (no-flags (length (a .flags .now)) (p .last .0) (p .ensures)))
 
 mul-entry-of : tie.Need-mul-entry-of Inv-loop μ-loop
 mul-entry-of c = search needs

@@ -4,14 +4,13 @@ use mathlib.Core.Path.{sym}
 use lib.ListN.{length-set}
 use lib.Seq.{length-take-le}
 use mir.Facts.{fits-lit}
-use Rattle.run.proofs.Sums.{bytes-fit, order-on, head-fits, text-fits, text-near, head-below, text-below, words-follow, count-fits, with-count, number-fits, with-number, with-flag, with-owner}
+use Rattle.run.proofs.Sums.{bytes-fit, order-on, head-fits, text-fits, text-near, head-below, count-fits, with-count, number-fits, with-number, with-flag, with-owner}
 use Rattle.run.proofs.Putting.{newHead, put-none, put-copied, work-put}
 use borrow.Author.Needs.{needs}
 use Rattle.run.proofs.put.put_card.Statement.{statement}
 use Rattle.run.proofs.put.put_card.Tie as tie
 use Rattle.run.proofs.put.put_card.Reads as reads
 use Rattle.run.proofs.put.put_card.Lts as lts
-use Rattle.library_store.proofs.copy.Reads as copy-reads
 
 add-if1 : tie.Need-add-if1
 add-if1 c = head-fits _ _ _ (c .before .before .pre .0 .0) (c .before .before .pre .0 .1) (c .before .before .pre .1 .0)
@@ -61,45 +60,27 @@ mul-w-3 c = let p = c .before .before .before .pre in bytes-fit _ _ (order-on _ 
 slice-write-w : tie.Need-slice-write-w
 slice-write-w c = head-below _ _ _ (c .before .before .before .pre .0 .0) (c .before .before .before .pre .0 .1) (c .before .before .before .pre .1 .0) _ (c .if1 .left)
 
-add-copy : tie.Need-add-copy
-add-copy c = head-fits _ _ _ (c .before .before .before .pre .0 .0) (c .before .before .before .pre .0 .1) (c .before .before .before .pre .1 .0)
+slice-aggregate-put-words : tie.Need-slice-aggregate-put-words
+slice-aggregate-put-words c =
+    let a = c .before .before .before .before .args in
+    sym (length-take-le (a .k) (a .text .now) (c .before .before .before .before .pre .1 .1 .0))
 
-add-copy-2 : tie.Need-add-copy-2
-add-copy-2 c = head-fits _ _ _ (c .before .before .before .pre .0 .0) (c .before .before .before .pre .0 .1) (c .before .before .before .pre .1 .0)
+add-put-words : tie.Need-add-put-words
+add-put-words c = let p = c .before .before .before .before .before .pre in head-fits _ _ _ (p .0 .0) (p .0 .1) (p .1 .0)
 
-add-copy-3 : tie.Need-add-copy-3
-add-copy-3 c = text-fits _ _ _ (c .before .before .before .pre .0 .0) (c .before .before .before .pre .0 .1) (c .before .before .before .pre .1 .0) _ (c .before .before .before .pre .1 .1 .1 .0)
+put-words-requires : tie.Need-put-words-requires
+put-words-requires c κs = search needs
 
-mul-copy : tie.Need-mul-copy
-mul-copy c = let p = c .before .before .before .pre in bytes-fit _ _ (text-below _ _ _ (c .before .before .before .pre .0 .0) (c .before .before .before .pre .0 .1) (c .before .before .before .pre .1 .0) _ (c .if1 .left)) (p .1 .0)
-
-sub-copy : tie.Need-sub-copy
-sub-copy c = words-follow _ _
-
-part-copy-start : tie.Need-part-copy-start
-part-copy-start c = words-follow _ _
-
-part-copy-end : tie.Need-part-copy-end
-part-copy-end c = simp length-set (omega arith)
-
-slice-aggregate-copy : tie.Need-slice-aggregate-copy
-slice-aggregate-copy c =
-    let a = c .before .before .before .before .before .args in
-    sym (length-take-le (a .k) (a .text .now) (c .before .before .before .before .before .pre .1 .1 .0))
-
-copy-requires : tie.Need-copy-requires
-copy-requires c κs = search needs
+add-t9 : tie.Need-add-t9
+add-t9 c = head-fits _ _ _ (c .before .before .before .before .before .before .before .before .pre .0 .0) (c .before .before .before .before .before .before .before .before .pre .0 .1) (c .before .before .before .before .before .before .before .before .pre .1 .0)
 
 add-t10 : tie.Need-add-t10
-add-t10 c = head-fits _ _ _ (c .before .before .before .before .before .before .before .before .pre .0 .0) (c .before .before .before .before .before .before .before .before .pre .0 .1) (c .before .before .before .before .before .before .before .before .pre .1 .0)
-
-add-t27 : tie.Need-add-t27
-add-t27 c = text-fits _ _ _ (c .before .before .before .before .before .before .before .before .pre .0 .0) (c .before .before .before .before .before .before .before .before .pre .0 .1) (c .before .before .before .before .before .before .before .before .pre .1 .0) _ (c .before .before .before .before .before .before .before .before .pre .1 .1 .1 .0)
+add-t10 c = text-fits _ _ _ (c .before .before .before .before .before .before .before .before .pre .0 .0) (c .before .before .before .before .before .before .before .before .pre .0 .1) (c .before .before .before .before .before .before .before .before .pre .1 .0) _ (c .before .before .before .before .before .before .before .before .pre .1 .1 .1 .0)
 
 same-length : tie.Need-same-length
 same-length c =
     let a = c .before .before .before .before .before .before .before .before .args in
-    omega (arith, c .before .before .copy .kept .0, length-set (a .w .now) (a .g .lo) (newHead (a .k) (a .seq) (a .n)))
+    omega (arith, c .before .before .put-words .kept .1 .0, length-set (a .w .now) (a .g .lo) (newHead (a .k) (a .seq) (a .n)))
 
 returns-2 : tie.Need-returns-2
 returns-2 c =
@@ -107,7 +88,7 @@ returns-2 c =
     let p = c .before .before .before .before .before .before .before .before .pre in (
       (p .0 .1, text-near _ _ _ (p .0 .0) (p .0 .1) (p .1 .0) _ (p .1 .1 .1 .0)),
       work-put (a .w .now) (a .g) (a .text .now) (a .k) (a .seq) (a .n) (p .0) (p .1 .1 .0) (p .1 .1 .1 .0) (p .1 .1 .1 .1 .0)
-          (p .1 .1 .1 .1 .1) _ _ (rw (c .before .before .copy .ensures)
+          (p .1 .1 .1 .1 .1) _ _ (rw (c .before .before .put-words .ensures)
           (put-copied (a .w .now) (a .g) (a .text .now) (a .k) (a .seq) (a .n) (p .0) (p .1 .1 .0) (c .before .before .before .before .before .if1 .left))),
     )
 
@@ -129,16 +110,10 @@ put-card-spec =
     add-w-5
     mul-w-3
     slice-write-w
-    add-copy
-    add-copy-2
-    add-copy-3
-    mul-copy
-    sub-copy
-    part-copy-start
-    part-copy-end
-    slice-aggregate-copy
-    copy-requires
+    slice-aggregate-put-words
+    add-put-words
+    put-words-requires
+    add-t9
     add-t10
-    add-t27
     same-length
     returns-2)

@@ -5,6 +5,7 @@ use native.Mathlib.Omega.{arith}
 use mathlib.Core.Path.{_≡_, ap, _∙_}
 use lib.ListN.{length, take, drop, length-drop}
 use lib.Seq.{take-all}
+use Rattle.words_lists.proofs.OverLists.{over-put}
 use Rattle.words.proofs.DecimalDigits.{too-narrow, justified}
 use Rattle.words_names.proofs.names.put_number.Statement.{statement}
 use Rattle.words_names.proofs.names.put_number.Tie as tie
@@ -53,7 +54,7 @@ returns-2 c =
     let all : take n d ≡ d = take-all n d (omega arith) in
     let a = c .before .before .before .before .before .before .before .before .before .before .before .before .before .before .before .args in
     let blanks = c .before .before .before .before .before .before .before .before .put-gap in
-    justified (a .n) (a .field .now) (blanks .last .1 .0) _ (take n d) (length (a .field .now) - n) (all ∙ p .ensures .1) (omega (arith, ap length all)) (omega (arith, ap length all)) (blanks .kept .1 .0) (blanks .ensures) (c .before .before .put-bytes .ensures)
+    justified (a .n) (a .field .now) (blanks .last .1 .0) _ (take n d) (length (a .field .now) - n) (all ∙ p .ensures .1) (omega (arith, ap length all)) (omega (arith, ap length all)) (blanks .kept .1 .0) (blanks .ensures) (c .before .before .put-bytes .ensures ∙ over-put (length (a .field .now) - n) (take n d) (blanks .last .1 .0) (omega (arith, ap length all, blanks .kept .1 .0)))
 
 pub put-number-spec : {M : Type 1} → statement M
 put-number-spec =
