@@ -14,7 +14,7 @@ use Rattle.compile_walk.specs.View.{view}
 use Rattle.compile_walk.specs.Walk.{printed, calledDeck}
 use Rattle.compile.specs.Compile.{compiling}
 use Rattle.library.specs.Counts.{withinCounts}
-use Rattle.library_yanks_bits.specs.SettledBits.{furtherLen, cardLen, cardsBy}
+use Rattle.library.specs.CardWords.{furtherLen, cardLen, cardsBy}
 use Rattle.library_raise.specs.Raised.{byteRaised, wordRaised, furtherRaised, cardRaised}
 use Rattle.merge_meaning.specs.Merge.{merging}
 use Rattle.demands.specs.MergeShown.{MergesHold, MergeSpare, NumbersSpare, FileSpare, YankMet, YankSpare}

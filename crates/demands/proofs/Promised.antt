@@ -3,7 +3,7 @@ use Rattle.words.proofs.TextTrip.{says-written, written-is-text, written-fits, 
 use Rattle.words.proofs.NameTrip.{name-of-word, word-of-its-name, read-of-written}
 use Rattle.words_packing.proofs.PackTrip.{unpack-packed, pack-unpacked, packed-accepted, unpacked-accepted, packed-length, unpacked-length, words-eights, eights-words}
 use Rattle.library.proofs.CheckExact.{check-exact, encode-once}
-use Rattle.library.proofs.FormByWord.{form-words}
+use Rattle.library.proofs.FormByWord.{form-words, form-met, form-spare}
 use Rattle.library.proofs.YankedUnique.{yanked-solves, yanked-unique}
 use Rattle.run_meaning.proofs.Kept.{run-passes, run-keeps, run-idle}
 use Rattle.demands.specs.Promises.{Promises}
@@ -47,6 +47,8 @@ promised =
       check-exact = check-exact;
       encode-once = encode-once;
       form-by-word = form-words;
+      form-met = form-met;
+      form-spare = form-spare;
       yanked-solves = yanked-solves;
       yanked-unique = yanked-unique;
       run-passes = run-passes;

@@ -6,7 +6,7 @@ use Rattle.words.specs.NameTrip.{NameOfWord, WordOfItsName, ReadOfWritten}
 use Rattle.words_packing.specs.PackTrip.{UnpackPacked, PackUnpacked, PackedAccepted, UnpackedAccepted, PackedLength, UnpackedLength, WordsEights, EightsWords}
 use Rattle.library.specs.Exact.{CheckExact, EncodeOnce, YankedSolves, YankedUnique}
 use Rattle.run_meaning.specs.Kept.{R4, R5, RunIdle}
-use Rattle.library.specs.WordForm.{FormByWord}
+use Rattle.library.specs.WordForm.{FormByWord, FormMet, FormSpare}
 use Rattle.demands.specs.Demands.{LibraryBack, B1, B2, R6}
 use Rattle.demands.specs.Cut.{B3}
 use Rattle.demands.specs.Shown.{AllHold}
@@ -45,8 +45,10 @@ pub record Promises : Type 0 where
   -- solution.
   pub check-exact : CheckExact
   pub encode-once : EncodeOnce
-  -- Row 5 of the check, word by word.
+  -- Row 5 of the check, word by word; a card of two words meets it, and without either of its hypotheses the two can differ.
   pub form-by-word : FormByWord
+  pub form-met : FormMet
+  pub form-spare : FormSpare
   pub yanked-solves : YankedSolves
   pub yanked-unique : YankedUnique
   -- R4: the result of an accepted run is sound, passes the check and fits the space.

@@ -3,7 +3,7 @@
 --   numbers-..              rising numbers that are entries
 --   further-read            further history words that pass are written so
 --   further-written         and those that are written so pass
---   form-words              row 5 of a card is `wordTests`
+--   form-words              row 5 of a card is `wordTests`; form-met, form-spare
 use Prim.Native.Nat.{ℕ, zero, suc, _+_, _-_, _*_, _/_, _%_, _^_, _≤_, _<_, min}
 use native.Mathlib.Omega.{arith}
 use mathlib.Core.Path.{_≡_, refl, sym, ap, ap₂, _∙_, subst}
@@ -18,7 +18,7 @@ use Rattle.words.specs.Base.{if_then_else_, all, allOf, same, isNil, placeFrom}
 use Rattle.words.proofs.TestParts.{T-true, true-T, same-eq, same-refl}
 use Rattle.library.specs.Image.{bit, furtherWords, headWords}
 use Rattle.library.specs.Check.{isLastWord, threes, used, rising, okByte, firstActivates, Fields, fieldsOf, formTests, okForm}
-use Rattle.library.specs.WordForm.{okNumber, okNumbers, bytesIn, okFull, okLast, okFurther, firstTests, wordTests, FormByWord}
+use Rattle.library.specs.WordForm.{okNumber, okNumbers, bytesIn, okFull, okLast, okFurther, firstTests, wordTests, FormByWord, twoWords, FormMet, FormSpare}
 use Rattle.library.proofs.CardWithin.{Pass, all-pass, placed-within}
 
 pub and-left : (a b : Bool) → (a && b) ≡ true → a ≡ true
@@ -441,3 +441,17 @@ form-words directory (w ∷ ws) k h p =
     let b : (1 ≤ k) × (k < 1 + suc (length ws)) = placed-within isLastWord 1 (w ∷ ws) k p in
     let s : k ≡ suc (e .0) = omega arith in
     subst (λ (n : ℕ). okForm directory (fieldsOf (w ∷ ws) n) ≡ allOf (wordTests directory (w ∷ ws) n)) (sym s) (form-here directory w ws (e .0) (e .1 .1) (omega arith))
+
+-- IT IS MET, and none of its hypotheses is spare
+two-words : (i : ℕ) → getD twoWords i 0 < 2 ^ 60
+two-words zero = omega arith
+two-words (suc zero) = omega arith
+two-words (suc (suc i)) = omega arith
+
+pub form-met : FormMet
+unfolding okFull okLast
+form-met = record { words = two-words; place = refl; passes = tt }
+
+pub form-spare : FormSpare
+unfolding FormSpare okFull okLast
+form-spare = tt

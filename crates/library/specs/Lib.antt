@@ -4,6 +4,7 @@ pub mod Yanks
 pub mod Settled
 pub mod Image
 pub mod Check
+pub mod CardWords
 pub mod Sound
 pub mod Exact
 pub mod Growth

@@ -3,14 +3,15 @@
 --   further history words  okFull, okLast, okFurther
 --   a card's words         firstTests, wordTests
 --   the promise            FormByWord
-use Prim.Native.Nat.{ℕ, _-_, _/_, _%_, _^_, _<_}
+--   it is met, none spare  twoWords, FormMet, formDiffers, overWord, endedTwice, isAt, FormSpare
+use Prim.Native.Nat.{ℕ, _+_, _-_, _*_, _/_, _%_, _^_, _<_}
 use mathlib.Core.Path.{_≡_}
-use mathlib.Core.Bool.{Bool, true, _&&_, not}
+use mathlib.Core.Bool.{Bool, true, _&&_, not, Bool·beq}
 use mathlib.Core.List.{List, [], _∷_}
-use lib.Dec.{eqb, ltb, leb}
+use lib.Dec.{T, eqb, ltb, leb}
 use lib.ListN.{length, getD, take, drop}
 use mathlib.Core.Option.{some}
-use Rattle.words.specs.Base.{if_then_else_, allOf, isNil, placeFrom}
+use Rattle.words.specs.Base.{if_then_else_, any, all, allOf, isNil, isWord, placeFrom}
 use Rattle.library.specs.Check.{isLastWord, used, okByte, fieldsOf, okForm}
 
 -- a byte's number is not below n, and is that of an entry that is not purged
@@ -56,3 +57,36 @@ wordTests directory ws k =
 abbrev pub FormByWord : Type 0
 FormByWord = (directory ws : List ℕ) (k : ℕ) → ((i : ℕ) → getD ws i 0 < 2 ^ 60) → placeFrom isLastWord 1 ws ≡ some k
     → okForm directory (fieldsOf ws k) ≡ allOf (wordTests directory ws k)
+
+-- IT IS MET by a card of two words with two bytes of the one entry, and row 5 passes it
+abbrev pub twoWords : List ℕ
+twoWords = (2 ^ 58 + 2 ^ 18 + (2 ^ 16 + 1)) ∷ (2 ^ 59 + (2 ^ 16 + 1) * 2 ^ 36) ∷ []
+
+pub record FormMet : Type 0 where
+  pub words : (i : ℕ) → getD twoWords i 0 < 2 ^ 60
+  pub place : placeFrom isLastWord 1 twoWords ≡ some 2
+  pub passes : T (okForm (2 ^ 59 ∷ []) (fieldsOf twoWords 2))
+
+-- and without either hypothesis the two can differ: of a word with bit 60, and where the first word has bit 59 and the second is counted with it
+abbrev pub formDiffers : List ℕ → ℕ → Bool
+formDiffers ws k = not (Bool·beq (okForm (2 ^ 59 ∷ []) (fieldsOf ws k)) (allOf (wordTests (2 ^ 59 ∷ []) ws k)))
+
+abbrev pub overWord : List ℕ
+overWord = (2 ^ 60 + 2 ^ 59 + 2 ^ 58 + 2 ^ 18 + (2 ^ 16 + 1)) ∷ []
+
+abbrev pub endedTwice : List ℕ
+endedTwice = (2 ^ 59 + 2 ^ 58 + 2 ^ 18 + (2 ^ 16 + 1)) ∷ (2 ^ 59 + (2 ^ 16 + 1) * 2 ^ 36) ∷ []
+
+-- the first word with bit 59 is the k-th
+abbrev pub isAt : List ℕ → ℕ → Bool
+isAt ws k = isLastWord (getD ws (k - 1) 0) && not (any isLastWord (take (k - 1) ws))
+
+unfoldable pub FormSpare : Type 0
+FormSpare =
+    T (allOf (
+      not (all isWord overWord)
+      ∷ isAt overWord 1
+      ∷ formDiffers overWord 1
+      ∷ all isWord endedTwice
+      ∷ not (isAt endedTwice 2)
+      ∷ formDiffers endedTwice 2 ∷ []))

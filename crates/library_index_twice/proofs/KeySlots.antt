@@ -11,7 +11,8 @@ use lib.Dec.{eqb, ltb}
 use lib.ListN.{length, getD, set, length-set}
 use lib.Seq.{getD-set-same, getD-set-other}
 use borrow.Author.Tests.{eqb-true, eqb-false, lt-ltb, le-ltb}
-use Rattle.words.specs.Base.{if_then_else_, member, aheadOf}
+use Rattle.words.specs.Base.{if_then_else_, member}
+use Rattle.words_lists.specs.Ahead.{aheadOf}
 use Rattle.library_index_twice.specs.Twice.{firstTwice}
 use Rattle.library_index_twice.specs.Slots.{slotOf}
 use Rattle.library_index_twice.proofs.KeysAhead.{not-ahead, Until, until-start, until-on, until-end}

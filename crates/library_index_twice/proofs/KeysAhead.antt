@@ -14,7 +14,8 @@ use lib.ListN.{length, getD, drop, drop-of-length-le}
 use lib.Seq.{drop-cons}
 use borrow.Author.Tests.{eq-eqb, ne-eqb}
 use Rattle.words.proofs.TestParts.{or-true}
-use Rattle.words.specs.Base.{if_then_else_, member, aheadOf}
+use Rattle.words.specs.Base.{if_then_else_, member}
+use Rattle.words_lists.specs.Ahead.{aheadOf}
 use Rattle.library_index_twice.specs.Twice.{twiceFrom, firstTwice}
 
 -- AMONG THE FIRST n

@@ -7,7 +7,8 @@ use mathlib.Core.Path.{_≡_}
 use mathlib.Core.Bool.{Bool, false}
 use mathlib.Core.List.{List}
 use lib.ListN.{length, getD}
-use Rattle.words.specs.Base.{member, aheadOf}
+use Rattle.words.specs.Base.{member}
+use Rattle.words_lists.specs.Ahead.{aheadOf}
 
 -- THE WAYS OF A KEY: the one from a place, by what is left of the key
 abbrev pub wayOf : ℕ → ℕ → ℕ

@@ -6,7 +6,7 @@ use mathlib.Core.List.{List, [], _∷_, _++_, append-assoc}
 use lib.ListN.{length, take, drop, getD, set}
 use lib.Seq.{drop-cons, set-split}
 use borrow.Author.Tests.{le-leb, lt-leb}
-use Rattle.library_yanks_bits.specs.SettledBits.{furtherLen, cardLen}
+use Rattle.library.specs.CardWords.{furtherLen, cardLen}
 use Rattle.library_yanks_bits.proofs.Cards.{one-len, many-len}
 use Rattle.library_raise.specs.Raised.{ownRaised, furtherRaised, cardRaised}
 use Rattle.library_raise.proofs.FurtherRaised.{past-set, upto-set}

@@ -8,7 +8,7 @@ use mathlib.Core.List.{List, [], _∷_, _++_, append-assoc, append-nil}
 use lib.ListN.{length, take, drop, getD, set, drop-of-length-le}
 use lib.Seq.{drop-cons, drop-set-lt, set-split, take-suc-set, take-all}
 use borrow.Author.Tests.{le-leb, lt-leb}
-use Rattle.library_yanks_bits.specs.SettledBits.{furtherLen}
+use Rattle.library.specs.CardWords.{furtherLen}
 use Rattle.library_yanks_bits.proofs.Histories.{last-len, more-len}
 use Rattle.library_raise.specs.Raised.{wordRaised, furtherRaised}
 

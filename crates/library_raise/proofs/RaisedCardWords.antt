@@ -16,10 +16,11 @@ use Rattle.library.specs.Image.{bit, byteBits, headWords, cardWords, cardsWords
 use Rattle.library.proofs.EachTest.{each-map}
 use Rattle.library.proofs.FieldsBack.{Raw}
 use Rattle.library.proofs.BytesBack.{Low, raw-bytes}
-use Rattle.library_yanks_bits.specs.SettledBits.{cardLen, cardsBy}
+use Rattle.library.specs.CardWords.{cardLen, cardsBy}
 use Rattle.library_yanks_bits.proofs.Cards.{no-cards}
 use Rattle.library_raise.specs.Raised.{byteRaised, cardRaised, raisedWords}
-use Rattle.library_raise.specs.RaisedCards.{raiseByte, raiseCard, raiseDeck, RaisesByte, Raises, Carries}
+use Rattle.library_raise.specs.RaisedCards.{raiseByte, raiseCard, raiseDeck}
+use Rattle.library_raise.specs.RaisedFits.{RaisesByte, Raises, Carries}
 use Rattle.library_raise.proofs.ByteRaised.{raise-used}
 use Rattle.library_raise.proofs.CardRaised.{none-raised}
 use Rattle.library_raise.proofs.RaisedHeads.{head-raised}

@@ -3,7 +3,7 @@ use Rattle.words.specs.Display.{codeOf}
 use Rattle.words.specs.Text.{blanks, wordsOf, textWords}
 use Rattle.library.specs.Yanks.{active}
 use Rattle.library.specs.Image.{cardWords}
-use Rattle.library_yanks_bits.specs.SettledBits.{furtherLen, cardLen, cardsBy}
+use Rattle.library.specs.CardWords.{furtherLen, cardLen, cardsBy}
 use Rattle.library_raise.specs.Raised.{byteRaised, wordRaised, furtherRaised, cardRaised}
 use Rattle.library_raise.specs.Examples.{RaisedCases}
 

@@ -7,7 +7,7 @@ use mathlib.Core.List.{List, [], _∷_, _++_, map}
 use lib.ListN.{length}
 use Rattle.library.specs.Image.{bit, furtherWords, headWords}
 use Rattle.library.proofs.FieldsBack.{Raw}
-use Rattle.library_yanks_bits.specs.SettledBits.{furtherLen, cardLen}
+use Rattle.library.specs.CardWords.{furtherLen, cardLen}
 use Rattle.library_yanks_bits.proofs.Histories.{last-len, more-len}
 use Rattle.library_yanks_bits.proofs.Cards.{one-len, many-len}
 use Rattle.library_raise.specs.Raised.{byteRaised, wordRaised, ownRaised, furtherRaised, cardRaised}

@@ -6,7 +6,8 @@ use mathlib.Core.Bool.{Bool, true, false}
 use mathlib.Core.List.{List, [], _∷_, _++_}
 use lib.ListN.{length, take, drop, length-drop, length-append, take-append-drop}
 use Rattle.words.specs.Base.{if_then_else_}
-use Rattle.library_yanks_bits.specs.SettledBits.{isLast, cardLen, cardsBy}
+use Rattle.library.specs.Check.{isLastWord}
+use Rattle.library.specs.CardWords.{cardLen, cardsBy}
 use Rattle.library_raise.specs.Raised.{furtherRaised, cardRaised, raisedWords}
 use Rattle.library_yanks_bits.proofs.Cards.{no-cards}
 use Rattle.library_raise.proofs.CardRaised.{none-raised}
@@ -18,12 +19,12 @@ either-long false xs ys e = e
 further-long : (n : ℕ) (xs : List ℕ) → length (furtherRaised n xs) ≡ length xs
 unfolding furtherRaised
 further-long n [] = refl
-further-long n (x ∷ xs) = ap suc (either-long (isLast x) xs (furtherRaised n xs) (further-long n xs))
+further-long n (x ∷ xs) = ap suc (either-long (isLastWord x) xs (furtherRaised n xs) (further-long n xs))
 
 pub card-long : (n : ℕ) (w : List ℕ) → length (cardRaised n w) ≡ length w
 unfolding cardRaised
 card-long n [] = refl
-card-long n (x ∷ xs) = ap suc (either-long (isLast x) xs (furtherRaised n xs) (further-long n xs))
+card-long n (x ∷ xs) = ap suc (either-long (isLastWord x) xs (furtherRaised n xs) (further-long n xs))
 
 some-len : (x : ℕ) (xs : List ℕ) → 0 < cardLen (x ∷ xs)
 unfolding cardLen

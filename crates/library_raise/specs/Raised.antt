@@ -1,4 +1,4 @@
--- CODE. Directory numbers raised by n in the history bytes of cards (RULES, "The merge"), in words that need not be a library's.
+-- MEANING. Directory numbers raised by n in the history bytes of cards (RULES, "The merge"), in words that need not be a library's.
 --   a byte, a word          byteRaised, wordRaised
 --   further history words   furtherRaised
 --   a card                  ownRaised, cardRaised
@@ -8,7 +8,8 @@ use mathlib.Core.List.{List, [], _∷_}
 use lib.Dec.{eqb}
 use lib.ListN.{length}
 use Rattle.words.specs.Base.{if_then_else_}
-use Rattle.library_yanks_bits.specs.SettledBits.{isLast, cardsBy}
+use Rattle.library.specs.Check.{isLastWord}
+use Rattle.library.specs.CardWords.{cardsBy}
 
 -- a byte with its number, bits 15-00, raised, and bits 17 and 16 as they are; an unused byte is zero and stays. Numbers go round at 2^16
 unfoldable pub byteRaised : ℕ → ℕ → ℕ
@@ -22,7 +23,7 @@ wordRaised n x =
 -- FURTHER HISTORY WORDS: up to and with the last, which has bit 59, or to the end; what follows stays
 unfoldable pub furtherRaised : ℕ → List ℕ → List ℕ
 furtherRaised n [] = []
-furtherRaised n (x ∷ xs) = wordRaised n x ∷ (if isLast x then xs else (furtherRaised n xs))
+furtherRaised n (x ∷ xs) = wordRaised n x ∷ (if isLastWord x then xs else (furtherRaised n xs))
 
 -- A CARD: its first word has one byte, the owner's; above that byte are the sequence number, the words of text and the bits, which stay
 abbrev pub ownRaised : ℕ → ℕ → ℕ
@@ -30,7 +31,7 @@ ownRaised n x = x / 2 ^ 18 * 2 ^ 18 + byteRaised n (x % 2 ^ 18)
 
 unfoldable pub cardRaised : ℕ → List ℕ → List ℕ
 cardRaised n [] = []
-cardRaised n (x ∷ xs) = ownRaised n x ∷ (if isLast x then xs else (furtherRaised n xs))
+cardRaised n (x ∷ xs) = ownRaised n x ∷ (if isLastWord x then xs else (furtherRaised n xs))
 
 -- CARDS, each of a word at least
 abbrev pub raisedWords : ℕ → List ℕ → List ℕ

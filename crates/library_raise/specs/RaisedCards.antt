@@ -1,15 +1,8 @@
--- MEANING. Cards and decks whose directory numbers are raised by n (RULES, "The merge"), and where they still fit.
---   raised       raiseByte, raiseCard, raiseDeck
---   what fits    RaisesByte, Raises
---   the flags    Carries
-use Prim.Native.Nat.{ℕ, _+_, _^_, _<_}
-use mathlib.Core.Path.{_≡_}
-use mathlib.Core.Bool.{Bool}
+-- MEANING. Cards and decks whose directory numbers are raised by n (RULES, "The merge").
+--   raiseByte, raiseCard, raiseDeck
+use Prim.Native.Nat.{ℕ, _+_}
 use mathlib.Core.List.{map}
-use lib.ListN.{length}
-use Rattle.words.specs.Text.{textWords}
-use Rattle.library.specs.Each.{Each}
-use Rattle.library.specs.Library.{Byte, Card, Deck, history}
+use Rattle.library.specs.Library.{Byte, Card, Deck}
 
 abbrev pub raiseByte : ℕ → Byte → Byte
 raiseByte n b = record { number = n + b .number; activating = b .activating }
@@ -20,16 +13,3 @@ raiseCard n c = record { line = c .line; seq = c .seq; owner = n + c .owner; lat
 
 abbrev pub raiseDeck : ℕ → Deck → Deck
 raiseDeck n d = record { number = n + d .number; common = d .common; line = d .line; cards = map (raiseCard n) (d .cards) }
-
--- WHAT FITS: the fields of the layout hold the numbers, the raised ones too
-abbrev pub RaisesByte : ℕ → Byte → Type 0
-RaisesByte n b = (0 < b .number) × (n + b .number < 2 ^ 16)
-
-pub record Raises (n : ℕ) (c : Card) : Type 0 where
-  pub count : length (textWords (c .line)) < 2 ^ 18
-  pub below : c .seq < 2 ^ 18
-  pub bytes : Each (RaisesByte n) (history c)
-
--- the flags of the raised numbers are those of the numbers. Of 0 nothing is said: its flag would be that of n itself
-abbrev pub Carries : ℕ → (ℕ → Bool) → (ℕ → Bool) → Type 0
-Carries n yk new = (k : ℕ) → 0 < k → new (n + k) ≡ yk k

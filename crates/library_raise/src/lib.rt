@@ -3,7 +3,7 @@ ghost use mathlib.Core.Path.{_≡_};
 ghost use mathlib.Core.List.{_++_};
 ghost use Prim.Native.Nat.{_+_, _≤_, _<_};
 ghost use lib.ListN.{length, take, drop};
-ghost use Rattle.library_yanks_bits.specs.SettledBits.{furtherLen, cardLen};
+ghost use Rattle.library.specs.CardWords.{furtherLen, cardLen};
 ghost use Rattle.library_raise.specs.Raised.{byteRaised, wordRaised, furtherRaised, cardRaised, raisedWords};
 
 // A field of 18 bits: a history byte, the sequence number, the words of text.

@@ -17,7 +17,8 @@ use lib.ListN.{length, getD, take, drop, drop-of-length-le}
 use lib.Seq.{drop-cons, take-suc}
 use borrow.Author.Tests.{eq-eqb, ne-eqb}
 use Rattle.words.proofs.TestParts.{and-false, and-true}
-use Rattle.words.specs.Base.{if_then_else_, any, member, isNil, aheadOf}
+use Rattle.words.specs.Base.{if_then_else_, any, member, isNil}
+use Rattle.words_lists.specs.Ahead.{aheadOf}
 use Rattle.words.specs.Names.{isName, nameOf, nameWord, isNameWord}
 use Rattle.words.specs.Spelt.{nameLength}
 use Rattle.library.specs.Library.{reserved, purged}

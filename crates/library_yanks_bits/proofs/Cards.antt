@@ -8,7 +8,8 @@ use mathlib.Core.List.{List, [], _∷_, _++_, append-assoc, append-nil}
 use lib.ListN.{length, take, drop, getD, set, drop-of-length-le}
 use lib.Seq.{drop-cons, set-split, set-at, take-suc, take-all, length-take-le, take-append-add, drop-append-add}
 use borrow.Author.Tests.{le-leb, lt-leb}
-use Rattle.library_yanks_bits.specs.SettledBits.{ownBits, ownSays, withActive, furtherBits, furtherSays, furtherLen, cardBits, cardLen, cardsBy}
+use Rattle.library_yanks_bits.specs.SettledBits.{ownBits, ownSays, withActive, furtherBits, furtherSays, cardBits}
+use Rattle.library.specs.CardWords.{furtherLen, cardLen, cardsBy}
 
 -- a card with one history word, and one with more
 module _ (yk : ℕ → Bool) (x : ℕ) (xs : List ℕ) where

@@ -9,7 +9,8 @@ use mathlib.Core.List.{List, [], _∷_, _++_, append-assoc, append-nil}
 use lib.ListN.{length, take, drop, getD, set, drop-of-length-le}
 use lib.Seq.{drop-cons, drop-set-lt, set-split, take-suc-set, take-all}
 use borrow.Author.Tests.{le-leb, lt-leb}
-use Rattle.library_yanks_bits.specs.SettledBits.{fixWord, sayWord, furtherBits, furtherSays, furtherLen}
+use Rattle.library_yanks_bits.specs.SettledBits.{fixWord, sayWord, furtherBits, furtherSays}
+use Rattle.library.specs.CardWords.{furtherLen}
 
 -- the last word, and one that is not
 module _ (yk : ℕ → Bool) (x : ℕ) (xs : List ℕ) where

@@ -1,16 +1,18 @@
 -- CODE. Yank and activity bits settled for flags (RULES, "When a card is active"), in words that need not be a library's.
 --   the flags               flagged
 --   a byte, a word          fixByte, fixWord, sayByte, sayWord
---   further history words   isLast, furtherBits, furtherSays, furtherLen
---   a card                  ownBits, ownSays, withActive, cardBits, cardLen
---   cards                   cardsBy, settledWords
-use Prim.Native.Nat.{ℕ, zero, suc, _+_, _-_, _*_, _/_, _%_, _^_}
+--   further history words   furtherBits, furtherSays
+--   a card                  ownBits, ownSays, withActive, cardBits
+--   cards                   settledWords
+use Prim.Native.Nat.{ℕ, _+_, _-_, _*_, _/_, _%_, _^_}
 use mathlib.Core.Bool.{Bool, not}
-use mathlib.Core.List.{List, [], _∷_, _++_}
+use mathlib.Core.List.{List, [], _∷_}
 use lib.Dec.{eqb, leb}
-use lib.ListN.{length, getD, take, drop}
+use lib.ListN.{length, getD}
 use Rattle.words.specs.Base.{if_then_else_}
 use Rattle.library.specs.Image.{bit}
+use Rattle.library.specs.Check.{isLastWord}
+use Rattle.library.specs.CardWords.{cardsBy}
 
 -- the flags as lent: flag n is not 0 where n is yanked
 unfoldable pub flagged : List ℕ → ℕ → Bool
@@ -31,20 +33,13 @@ unfoldable pub sayWord : ℕ → ℕ → ℕ
 sayWord so y = sayByte (sayByte (sayByte so (y / 2 ^ 36 % 2 ^ 18)) (y / 2 ^ 18 % 2 ^ 18)) (y % 2 ^ 18)
 
 -- FURTHER HISTORY WORDS: up to and with the last, which has bit 59, or to the end; what follows stays
-abbrev pub isLast : ℕ → Bool
-isLast x = leb (2 ^ 59) x
-
 unfoldable pub furtherBits : (ℕ → Bool) → List ℕ → List ℕ
 furtherBits yk [] = []
-furtherBits yk (x ∷ xs) = fixWord yk x ∷ (if isLast x then xs else (furtherBits yk xs))
+furtherBits yk (x ∷ xs) = fixWord yk x ∷ (if isLastWord x then xs else (furtherBits yk xs))
 
 unfoldable pub furtherSays : (ℕ → Bool) → ℕ → List ℕ → ℕ
 furtherSays yk so [] = so
-furtherSays yk so (x ∷ xs) = if isLast x then (sayWord so (fixWord yk x)) else (furtherSays yk (sayWord so (fixWord yk x)) xs)
-
-unfoldable pub furtherLen : List ℕ → ℕ
-furtherLen [] = 0
-furtherLen (x ∷ xs) = if isLast x then 1 else (suc (furtherLen xs))
+furtherSays yk so (x ∷ xs) = if isLastWord x then (sayWord so (fixWord yk x)) else (furtherSays yk (sayWord so (fixWord yk x)) xs)
 
 -- A CARD: its first word with the owner's byte settled and the activity bit as the bytes say, its further history words; what follows stays
 abbrev pub ownBits : (ℕ → Bool) → ℕ → ℕ
@@ -59,19 +54,9 @@ withActive y so = y - y / 2 ^ 58 % 2 * 2 ^ 58 + so * 2 ^ 58
 unfoldable pub cardBits : (ℕ → Bool) → List ℕ → List ℕ
 cardBits yk [] = []
 cardBits yk (x ∷ xs) =
-    if isLast x then (withActive (ownBits yk x) (ownSays yk x) ∷ xs)
+    if isLastWord x then (withActive (ownBits yk x) (ownSays yk x) ∷ xs)
     else (withActive (ownBits yk x) (furtherSays yk (ownSays yk x) xs) ∷ furtherBits yk xs)
 
--- its words of history, and as many of text as the first of them counts
-unfoldable pub cardLen : List ℕ → ℕ
-cardLen [] = 0
-cardLen (x ∷ xs) = 1 + (if isLast x then 0 else (furtherLen xs)) + x / 2 ^ 36 % 2 ^ 18
-
--- CARDS: at most k, one after another, each by f, which is given the words from the card on and keeps what follows it
-unfoldable pub cardsBy : (List ℕ → List ℕ) → ℕ → List ℕ → List ℕ
-cardsBy f zero w = w
-cardsBy f (suc k) w = let v : List ℕ = f w in take (cardLen w) v ++ cardsBy f k (drop (cardLen w) v)
-
--- each has a word at least
+-- CARDS, each of a word at least
 abbrev pub settledWords : (ℕ → Bool) → List ℕ → List ℕ
 settledWords yk w = cardsBy (cardBits yk) (length w) w

@@ -3,7 +3,8 @@ ghost use mathlib.Core.Path.{_≡_};
 ghost use mathlib.Core.List.{_++_};
 ghost use Prim.Native.Nat.{_+_, _≤_, _<_};
 ghost use lib.ListN.{length, take, drop};
-ghost use Rattle.library_yanks_bits.specs.SettledBits.{flagged, fixByte, fixWord, sayByte, sayWord, furtherBits, furtherSays, furtherLen, withActive, cardBits, cardLen, settledWords};
+ghost use Rattle.library_yanks_bits.specs.SettledBits.{flagged, fixByte, fixWord, sayByte, sayWord, furtherBits, furtherSays, withActive, cardBits, settledWords};
+ghost use Rattle.library.specs.CardWords.{furtherLen, cardLen};
 
 // A field of 18 bits: a history byte, the sequence number, the words of text.
 const FIELD: u64 = 262144;

@@ -18,7 +18,8 @@ use Rattle.library.proofs.EachTest.{each-map}
 use Rattle.library.proofs.OneSolution.{says-agree}
 use Rattle.library.proofs.LimitsByCount.{cards-append, Small, within-small}
 use Rattle.library_raise.specs.Raised.{raisedWords}
-use Rattle.library_raise.specs.RaisedCards.{raiseCard, raiseDeck, Carries}
+use Rattle.library_raise.specs.RaisedCards.{raiseCard, raiseDeck}
+use Rattle.library_raise.specs.RaisedFits.{Carries}
 use Rattle.library_raise.proofs.RaisedCardWords.{cards-raised, decks-raised}
 use Rattle.library_raise.proofs.SoundRaises.{cards-raise, decks-raise}
 use Rattle.merge_meaning.specs.Merge.{merge}

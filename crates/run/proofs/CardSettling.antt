@@ -13,7 +13,8 @@ use Rattle.library.specs.Each.{Each}
 use Rattle.library.specs.Library.{Byte, Card}
 use Rattle.library.specs.Yanks.{lastSays, active}
 use Rattle.library.specs.Image.{bit, byteBits, furtherWords, cardWords, cardsWords}
-use Rattle.library_yanks_bits.specs.SettledBits.{fixByte, sayByte, ownBits, ownSays, withActive, furtherSays, furtherLen, cardBits, cardLen, cardsBy, settledWords}
+use Rattle.library_yanks_bits.specs.SettledBits.{fixByte, sayByte, ownBits, ownSays, withActive, furtherSays, cardBits, settledWords}
+use Rattle.library.specs.CardWords.{furtherLen, cardLen, cardsBy}
 use Rattle.library_yanks_bits.proofs.Cards.{one-bits, many-bits, one-len, many-len, no-cards, none-bits}
 use Rattle.run.specs.CardHeads.{ownByte, textOf, headWord, headsOf, headsLen, Fits}
 use Rattle.run.proofs.Heads.{bits-below, byte-back, count-back}

@@ -10,7 +10,8 @@ use Rattle.library.specs.Each.{Each}
 use Rattle.library.specs.Library.{Byte}
 use Rattle.library.specs.Yanks.{lastSays}
 use Rattle.library.specs.Image.{bit, byteBits, furtherWords}
-use Rattle.library_yanks_bits.specs.SettledBits.{fixByte, fixWord, sayByte, sayWord, furtherBits, furtherSays, furtherLen}
+use Rattle.library_yanks_bits.specs.SettledBits.{fixByte, fixWord, sayByte, sayWord, furtherBits, furtherSays}
+use Rattle.library.specs.CardWords.{furtherLen}
 use Rattle.library_yanks_bits.proofs.Fixing.{say-none}
 use Rattle.library_yanks_bits.proofs.Histories.{last-bits, last-says, last-len, more-bits, more-says, more-len}
 use Rattle.run.specs.CardHeads.{FitsByte}

@@ -1,7 +1,7 @@
 -- MEANING. Small words that the definitions are written in.
 --   choice        if_then_else_
 --   quoted text   bytes, byte
---   lists         any, all, allOf, anyOf, member, same, isNil, placeFrom, aheadOf
+--   lists         any, all, allOf, anyOf, member, same, isNil, placeFrom
 --   words         isWord
 --   cutting       takeUntil, dropUntil, beyond, into, split
 use Prim.Native.Nat.{ℕ, zero, suc, _-_, _^_}
@@ -11,7 +11,7 @@ use mathlib.Core.Bool.{Bool, true, false, _&&_, _||_}
 use mathlib.Core.List.{List, [], _∷_}
 use mathlib.Core.Option.{Option, none, some}
 use lib.Dec.{eqb, ltb}
-use lib.ListN.{drop, getD}
+use lib.ListN.{drop}
 
 infixr 5 if_then_else_
 abbrev pub if_then_else_ : {A : Type 0} → Bool → A → A → A
@@ -85,11 +85,6 @@ into x (l ∷ ls) = (x ∷ l) ∷ ls
 abbrev pub split : (ℕ → Bool) → List ℕ → List (List ℕ)
 split p [] = [] ∷ []
 split p (x ∷ xs) = let rest = split p xs in if p x then ([] ∷ rest) else into x rest
-
--- those ahead of a place, the nearest first
-abbrev pub aheadOf : ℕ → List ℕ → List ℕ
-aheadOf zero xs = []
-aheadOf (suc n) xs = getD xs n 0 ∷ aheadOf n xs
 
 -- a word has 60 bits: a number of 2^60 or more is none (RULES, "Words")
 abbrev pub isWord : ℕ → Bool

@@ -6,7 +6,7 @@ use lib.Seq.{length-take-le}
 use Rattle.words.specs.Base.{isNil}
 use lib.Dec.{eqb}
 use Prim.Native.Nat.{ℕ}
-use Rattle.words.specs.Base.{aheadOf}
+use Rattle.words_lists.specs.Ahead.{aheadOf}
 use Rattle.library_tables.proofs.TableWords.{stands-ahead, some-ahead, deck-first, deck-unknown, deck-twice, deck-name}
 use borrow.Author.Needs.{needs}
 use Rattle.library_tables.proofs.tables.deck_word_ok.Statement.{statement}

@@ -1,6 +1,6 @@
 -- Each way out is one of the tests of a directory word. Assumes nothing.
 use mathlib.Core.Path.{sym, _∙_}
-use Rattle.words.specs.Base.{aheadOf}
+use Rattle.words_lists.specs.Ahead.{aheadOf}
 use Rattle.library_tables.proofs.TableWords.{stands-ahead, entry-purged, entry-reserved, entry-twice, entry-name}
 use lib.ListN.{getD}
 use lib.Seq.{length-take-le}
