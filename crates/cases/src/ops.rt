@@ -44,7 +44,7 @@ fn pack(head: Head, bytes: &[u8], file: &mut [u8]) -> Answer {
 
 fn unpack_into(source: &[u8], room: &mut [u8]) -> Answer {
     fill_bytes(room);
-    let p = words_packing_back::unpack_bytes(source, room);
+    let p = words_packing::unpack_bytes(source, room);
     packing_answer(p, room)
 }
 

@@ -50,7 +50,7 @@ fn put_packed(input: &[u8], words: &mut [u64], out: &mut [u8]) -> usize
     requires { ⌜ (length (now words) ≡ 4096) × (length (now out) ≡ 65520) ⌝ }
     ensures { λ r. ⌜ Wrote (afterUnpacking (unpacking (now (input .entry)) 4096) (unpacked (now (input .entry)))) r (now (out .entry)) (now (out .exit)) ⌝ }
 {
-    let answer = words_packing_back::unpack(input, words);
+    let answer = words_packing::unpack(input, words);
     let number = words_packing::packing_number(answer);
     match answer {
         Packing::Done(n) => put_file(&words[..n], out),

@@ -29,7 +29,7 @@ pub extern "C" fn galdwist_unpack(bytes: &[u8], out: &mut [u8], written: &mut u6
     ensures space { λ _. ⌜ now (out .exit) ≡ unpackEightsInto (now (bytes .entry)) (now (out .entry)) ⌝ }
     ensures value { λ _. ⌜ now (written .exit) ≡ packingValue (unpackingEights (now (bytes .entry)) (length (now (out .entry)))) ⌝ }
 {
-    let answer = words_packing_back::unpack_bytes(bytes, out);
+    let answer = words_packing::unpack_bytes(bytes, out);
     *written = words_packing::packing_value(answer);
     words_packing::packing_number(answer)
 }

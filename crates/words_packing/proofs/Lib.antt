@@ -8,3 +8,7 @@ pub mod PackAnswer
 pub mod PackedPair
 -- Packing loses nothing: 15 bytes are one number of 120 bits, and its two halves are the two words.
 pub mod PackTrip
+-- What the space holds after unpacking, and what is answered for words of eight bytes.
+pub mod UnpackAnswer
+-- Each turn of unpacking writes what the next 15 bytes say, and the rest is unpacked alike.
+pub mod UnpackedPair

@@ -1,17 +1,18 @@
 -- Numbers as bytes, highest first and lowest first: what is written is read again.
 --   lists below a bound   Below, all-below, below-all, below-known, below-at, below-take, below-drop, below-append
 --   highest first         bytes-below, number-join, number-so, number-div, number-bytes, bytes-number
---   lowest first          low-number, low-bytes
---   eight at a place      eight-at, sets-all, highs, highs-are
+--   lowest first          low-number, low-bytes, low-eight
+--   the other way round   turned-number
+--   eight at a place      eight-at
 use mathlib.Core.Path.{_≡_, refl, ap, _∙_}
 use mathlib.Core.Bool.{Bool, true, false, _&&_}
-use mathlib.Core.List.{List, [], _∷_, _++_, append-nil}
+use mathlib.Core.List.{List, [], _∷_, _++_}
 use Prim.Native.Nat.{ℕ, zero, suc, _+_, _*_, _/_, _%_, _^_, _≤_, _<_}
-use native.Mathlib.Nat.{add-zero, zero-add, pow-suc, div-div-eq-div-mul, div-one, div-lt-iff-lt-mul}
+use native.Mathlib.Nat.{add-zero, pow-suc, div-div-eq-div-mul, div-one, div-lt-iff-lt-mul}
 use native.Mathlib.Omega.{arith}
 use lib.Dec.{ltb}
 use lib.ListN.{length, getD, take, drop, length-drop}
-use lib.Seq.{drop-cons, drop-length, getD-drop, sets, sets-eq}
+use lib.Seq.{drop-cons, getD-drop, length-take-le}
 use borrow.Author.Tests.{ltb-true, lt-ltb}
 use Rattle.words.specs.Base.{all}
 use Rattle.words_packing.specs.Pack.{bytesOf, numberOf, lowBytes, lowNumber}
@@ -106,6 +107,22 @@ low-bytes (b ∷ bs) h =
     let f : (b + 256 * lowNumber bs) / 256 ≡ lowNumber bs = omega (arith, h .0) in
     rw (e, f, low-bytes bs (h .1))
 
+pub low-eight : (bs : List ℕ) → Below 256 bs → 8 ≤ length bs → lowBytes 8 (lowNumber (take 8 bs)) ≡ take 8 bs
+low-eight bs h n =
+    let l : length (take 8 bs) ≡ 8 = length-take-le 8 bs n in
+    rw l at (low-bytes (take 8 bs) (below-take 256 8 bs h))
+
+-- THE OTHER WAY ROUND: the byte that is highest stands last
+low-last : (n w : ℕ) → lowBytes (suc n) w ≡ lowBytes n w ++ (w / 256 ^ n % 256 ∷ [])
+low-last zero w = rw div-one
+low-last (suc n) w =
+    let e : w / 256 / 256 ^ n ≡ w / 256 ^ suc n = rw (div-div-eq-div-mul w 256 (256 ^ n), pow-suc 256 n) (ap (λ (m : ℕ). w / m) (omega arith)) in
+    rw (← e) (ap {B = List ℕ} (λ r. w % 256 ∷ r) (low-last n (w / 256)))
+
+pub turned-number : (n w : ℕ) → lowNumber (bytesOf n w) ≡ numberOf 0 (lowBytes n w)
+turned-number zero w = refl
+turned-number (suc n) w = rw (low-last n w, number-join 0 (lowBytes n w) (w / 256 ^ n % 256 ∷ []), ← turned-number n w) (omega arith)
+
 -- EIGHT AT A PLACE
 abbrev gets : ℕ → ℕ → List ℕ → List ℕ
 gets zero i xs = []
@@ -120,16 +137,3 @@ pub eight-at : (bs : List ℕ) (at : ℕ) → at + 8 ≤ length bs
     → take 8 (drop at bs)
     ≡ getD bs at 0 ∷ getD bs (at + 1) 0 ∷ getD bs (at + 2) 0 ∷ getD bs (at + 3) 0 ∷ getD bs (at + 4) 0 ∷ getD bs (at + 5) 0 ∷ getD bs (at + 6) 0 ∷ getD bs (at + 7) 0 ∷ []
 eight-at bs at h = take-gets 8 0 (drop at bs) (rw length-drop (omega arith)) ∙ simp (getD-drop, add-zero)
-
--- a space that is written from its front to its end
-pub sets-all : (out vs : List ℕ) → length out ≡ length vs → sets out 0 vs ≡ vs
-sets-all out vs h =
-    let none : drop (0 + length vs) out ≡ [] = rw (zero-add, ← h) (drop-length out) in
-    sets-eq vs out 0 (omega arith) ∙ ap (λ (r : List ℕ). vs ++ r) none ∙ append-nil vs
-
--- eight stores, as the code writes them
-abbrev pub highs : ℕ → List ℕ
-highs w = w / 2 ^ 56 % 256 ∷ w / 2 ^ 48 % 256 ∷ w / 2 ^ 40 % 256 ∷ w / 2 ^ 32 % 256 ∷ w / 2 ^ 24 % 256 ∷ w / 2 ^ 16 % 256 ∷ w / 2 ^ 8 % 256 ∷ w % 256 ∷ []
-
-pub highs-are : (w : ℕ) → highs w ≡ bytesOf 8 w
-highs-are w = simp div-one

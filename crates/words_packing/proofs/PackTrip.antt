@@ -13,10 +13,10 @@ use lib.Dec.{eqb}
 use lib.ListN.{length, getD, take, drop, length-append, length-drop, take-append-drop}
 use lib.Seq.{length-take-le, take-at, drop-at, getD-drop, getD-append-add}
 use borrow.Author.Tests.{eqb-true, le-leb}
-use Rattle.words_packing.specs.Pack.{bytesOf, numberOf, lowBytes, lowNumber, packed, packedLength, packing, isPackedLength, hasTail, unpackedPairs, unpacked, unpackedLength, unpacking, eights, wordsFrom, wordsOfEights}
+use Rattle.words_packing.specs.Pack.{bytesOf, numberOf, lowBytes, packed, packedLength, packing, isPackedLength, hasTail, unpackedPairs, unpacked, unpackedLength, unpacking, eights, wordsFrom, wordsOfEights}
 use Rattle.words_packing.specs.declared.Packing.the-variants.{Done}
 use Rattle.words_packing.specs.PackTrip.{UnpackPacked, PackUnpacked, PackedAccepted, UnpackedAccepted, PackedLength, UnpackedLength, WordsEights, EightsWords}
-use Rattle.words_packing.proofs.NumberBytes.{Below, all-below, below-all, below-take, below-drop, number-div, number-bytes, bytes-number, low-number, low-bytes}
+use Rattle.words_packing.proofs.NumberBytes.{Below, all-below, below-all, below-take, below-drop, number-div, number-bytes, bytes-number, low-number, low-eight}
 use Rattle.words_packing.proofs.PackAnswer.{accepted, answer-whole, answer-last}
 use Rattle.words_packing.proofs.PackedPair.{number-eight, eights-more}
 
@@ -194,8 +194,7 @@ eights-back : (k : ℕ) (bs : List ℕ) → Below 256 bs → length bs ≡ 8 * k
 eights-back zero [] h l = refl
 eights-back zero (b ∷ bs) h l = absurd (omega arith)
 eights-back (suc k) bs h l =
-    let n : length (take 8 bs) ≡ 8 = length-take-le 8 bs (omega arith) in
-    let front : lowBytes 8 (lowNumber (take 8 bs)) ≡ take 8 bs = rw n at (low-bytes (take 8 bs) (below-take 256 8 bs h)) in
+    let front = low-eight bs h (omega arith) in
     let rest : eights (wordsFrom k (drop 8 bs)) ≡ drop 8 bs = eights-back k (drop 8 bs) (below-drop 256 8 bs h) (rw length-drop (omega arith)) in
     (λ i. front i ++ rest i) ∙ take-append-drop 8 bs
 

@@ -1,17 +1,14 @@
-// Words of 60 bits packed to bytes.
+// Words of 60 bits packed to bytes, and packed bytes back to words.
+mod eights;
 mod packer;
+mod unpacker;
 
-pub use packer::EIGHT;
-pub use packer::HALF;
-pub use packer::LIMIT;
-pub use packer::NIBBLE;
-pub use packer::PAIR;
-pub use packer::SECOND;
-pub use packer::TWO;
 pub use packer::pack;
 pub use packer::pack_bytes;
 pub use packer::packing_number;
 pub use packer::packing_value;
+pub use unpacker::unpack;
+pub use unpacker::unpack_bytes;
 
 // What packing or unpacking answers: how many bytes or words were written, or why not.
 pub enum Packing {

@@ -1,64 +1,28 @@
 // Words packed to bytes (RULES, "Packing"; rows 50 and 53), and the same with each word as eight bytes for C.
 use crate::Packing;
+use crate::eights::EIGHT;
+use crate::eights::TWO;
+use crate::eights::low;
+use crate::eights::put_high;
 ghost use mathlib.Core.Path.{_≡_};
 ghost use mathlib.Core.Bool.{true};
-ghost use mathlib.Core.List.{[], _∷_, _++_};
+ghost use mathlib.Core.List.{_++_};
 ghost use Prim.Native.Nat.{_+_, _*_, _/_, _^_, _≤_, _<_};
-ghost use lib.ListN.{length, take, drop};
+ghost use lib.ListN.{length, drop};
 ghost use Rattle.words.specs.Base.{all};
-ghost use Rattle.words_packing.specs.Pack.{bytesOf, lowNumber, packedLength, packed, wordsOfEights, packing, packInto, packingEights, packEightsInto, packingNumber, packingValue};
+ghost use Rattle.words_packing.specs.Pack.{bytesOf, packedLength, packed, wordsOfEights, packing, packInto, packingEights, packEightsInto, packingNumber, packingValue};
 ghost use Rattle.words.specs.Base.{isWord};
 
 // 2^60: a word is below it
-pub const LIMIT: u64 = 1152921504606846976;
-// 2^56 and 2^32: what the highest of eight bytes counts, and the upper four of them
+pub(crate) const LIMIT: u64 = 1152921504606846976;
+// 2^56: what the highest of eight bytes counts
 const TOP: u64 = 72057594037927936;
-
-pub const HALF: u64 = 4294967296;
 // four bits: of 15 bytes the middle one has four of each word
-pub const NIBBLE: u64 = 16;
+pub(crate) const NIBBLE: u64 = 16;
 // the bytes of two words, and where the second word's eight of them start
-pub const PAIR: usize = 15;
+pub(crate) const PAIR: usize = 15;
 
-pub const SECOND: usize = 7;
-// the bytes of an odd last word, and of a word for C; those of two words for C
-pub const EIGHT: usize = 8;
-
-pub const TWO: usize = 16;
-
-// The number that four bytes write, lowest first.
-fn four(a: u8, b: u8, c: u8, d: u8) -> u64
-    ensures { λ r. ⌜ (r ≡ lowNumber (a ∷ b ∷ c ∷ d ∷ [])) × (r < 4294967296) ⌝ }
-{
-    let low = (b as u64) * 256 + (a as u64);
-    let high = (d as u64) * 256 + (c as u64);
-    high * 65536 + low
-}
-
-// The number that the eight bytes from a place write, lowest first.
-fn low(bytes: &[u8], at: usize) -> u64
-    requires { ⌜ at + 8 ≤ length (now bytes) ⌝ }
-    ensures { λ r. ⌜ r ≡ lowNumber (take 8 (drop at (now (bytes .entry)))) ⌝ }
-{
-    let end = four(bytes[at], bytes[at + 1], bytes[at + 2], bytes[at + 3]);
-    let top = four(bytes[at + 4], bytes[at + 5], bytes[at + 6], bytes[at + 7]);
-    top * HALF + end
-}
-
-// The bytes of a number, highest first.
-fn put_high(out: &mut [u8], w: u64)
-    requires { ⌜ length (now out) ≡ 8 ⌝ }
-    ensures { λ _. ⌜ now (out .exit) ≡ bytesOf 8 w ⌝ }
-{
-    out[0] = ((w >> 56) % 256) as u8;
-    out[1] = ((w >> 48) % 256) as u8;
-    out[2] = ((w >> 40) % 256) as u8;
-    out[3] = ((w >> 32) % 256) as u8;
-    out[4] = ((w >> 24) % 256) as u8;
-    out[5] = ((w >> 16) % 256) as u8;
-    out[6] = ((w >> 8) % 256) as u8;
-    out[7] = (w % 256) as u8;
-}
+pub(crate) const SECOND: usize = 7;
 
 // Two words into 15 bytes: the second with the first's last four bits ahead of it, then the first over the byte that both share.
 fn put_pair(out: &mut [u8], a: u64, b: u64)

@@ -1,52 +1,19 @@
 // Packed bytes back to words (RULES, "Packing"; rows 50, 51 and 53), and the same with each word as eight bytes for C.
+use crate::Packing;
+use crate::eights::EIGHT;
+use crate::eights::TWO;
+use crate::eights::high;
+use crate::eights::put_low;
+use crate::packer::LIMIT;
+use crate::packer::NIBBLE;
+use crate::packer::PAIR;
+use crate::packer::SECOND;
 ghost use mathlib.Core.Path.{_≡_};
 ghost use mathlib.Core.Bool.{true};
-ghost use mathlib.Core.List.{[], _∷_, _++_};
-ghost use Prim.Native.Nat.{_+_, _*_, _≤_, _<_};
-ghost use lib.ListN.{length, take, drop};
-ghost use Rattle.words_packing.specs.Pack.{numberOf, lowBytes, isPackedLength, unpackedLength, unpacked, eights, unpacking, unpackInto, unpackingEights, unpackEightsInto};
-use words_packing::EIGHT;
-use words_packing::HALF;
-use words_packing::LIMIT;
-use words_packing::NIBBLE;
-use words_packing::PAIR;
-use words_packing::Packing;
-use words_packing::SECOND;
-use words_packing::TWO;
-
-// The number that four bytes write, highest first.
-fn four(a: u8, b: u8, c: u8, d: u8) -> u64
-    ensures { λ r. ⌜ (r ≡ numberOf 0 (a ∷ b ∷ c ∷ d ∷ [])) × (r < 4294967296) ⌝ }
-{
-    let high = (a as u64) * 256 + (b as u64);
-    let low = (c as u64) * 256 + (d as u64);
-    high * 65536 + low
-}
-
-// The number that the eight bytes from a place write, highest first.
-fn high(bytes: &[u8], at: usize) -> u64
-    requires { ⌜ at + 8 ≤ length (now bytes) ⌝ }
-    ensures { λ r. ⌜ r ≡ numberOf 0 (take 8 (drop at (now (bytes .entry)))) ⌝ }
-{
-    let top = four(bytes[at], bytes[at + 1], bytes[at + 2], bytes[at + 3]);
-    let end = four(bytes[at + 4], bytes[at + 5], bytes[at + 6], bytes[at + 7]);
-    top * HALF + end
-}
-
-// The bytes of a number, lowest first.
-fn put_low(out: &mut [u8], w: u64)
-    requires { ⌜ length (now out) ≡ 8 ⌝ }
-    ensures { λ _. ⌜ now (out .exit) ≡ lowBytes 8 w ⌝ }
-{
-    out[0] = (w % 256) as u8;
-    out[1] = ((w >> 8) % 256) as u8;
-    out[2] = ((w >> 16) % 256) as u8;
-    out[3] = ((w >> 24) % 256) as u8;
-    out[4] = ((w >> 32) % 256) as u8;
-    out[5] = ((w >> 40) % 256) as u8;
-    out[6] = ((w >> 48) % 256) as u8;
-    out[7] = ((w >> 56) % 256) as u8;
-}
+ghost use mathlib.Core.List.{_++_};
+ghost use Prim.Native.Nat.{_*_, _≤_};
+ghost use lib.ListN.{length, drop};
+ghost use Rattle.words_packing.specs.Pack.{lowBytes, isPackedLength, unpackedLength, unpacked, eights, unpacking, unpackInto, unpackingEights, unpackEightsInto};
 
 // Two words into 16 bytes, for C.
 fn put_two(out: &mut [u8], a: u64, b: u64)

@@ -2,11 +2,11 @@
 use mathlib.Core.Path.{sym, _∙_}
 use lib.ListN.{length}
 use borrow.Author.Needs.{needs}
 use Rattle.words_packing.specs.Pack.{spaceAfter}
 use Rattle.words_packing.proofs.PackAnswer.{accepted}
-use Rattle.words_packing_back.proofs.UnpackAnswer.{unpack-done}
-use Rattle.words_packing_back.proofs.unpacker.unpack.Statement.{statement}
-use Rattle.words_packing_back.proofs.unpacker.unpack.Tie as tie
+use Rattle.words_packing.proofs.UnpackAnswer.{unpack-done}
+use Rattle.words_packing.proofs.unpacker.unpack.Statement.{statement}
+use Rattle.words_packing.proofs.unpacker.unpack.Tie as tie
 
 unpackable-requires : tie.Need-unpackable-requires
 unpackable-requires c κs = search needs

@@ -4,12 +4,12 @@ use Prim.Native.Nat.{_+_, _-_, _*_, _/_, _%_, _^_, _≤_}
 use native.Mathlib.Omega.{arith}
 use lib.ListN.{length, take, drop, length-drop, length-set}
 use borrow.Author.Needs.{needs}
 use Rattle.words_packing.specs.Pack.{numberOf, unpacked, unpackedLength}
 use Rattle.words_packing.proofs.NumberBytes.{below-known}
 use Rattle.words_packing.proofs.WrittenSoFar.{Filling, fill-start, fill-two, fill-set, fill-end}
-use Rattle.words_packing_back.proofs.UnpackedPair.{pair-at, left-over, unpacked-last, unpacked-none}
-use Rattle.words_packing_back.proofs.unpacker.write_unpacked.Statement.{statement}
-use Rattle.words_packing_back.proofs.unpacker.write_unpacked.Tie as tie
+use Rattle.words_packing.proofs.UnpackedPair.{pair-at, left-over, unpacked-last, unpacked-none}
+use Rattle.words_packing.proofs.unpacker.write_unpacked.Statement.{statement}
+use Rattle.words_packing.proofs.unpacker.write_unpacked.Tie as tie
 
 abbrev Inv-loop : tie.InvT-loop
 Inv-loop bytes out₀ at₀ i₀ out at i = (at ≤ length bytes) × (((at % 15 ≡ 0) × (i ≡ 2 * (at / 15))) × Filling (unpacked bytes) (unpacked (drop at bytes)) out₀ out i)

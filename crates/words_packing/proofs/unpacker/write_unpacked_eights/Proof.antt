@@ -6,12 +6,12 @@ use native.Mathlib.Omega.{arith}
 use lib.ListN.{length, take, drop, length-drop}
 use borrow.Rule.Slice.PartMut.{post-is}
 use borrow.Author.Needs.{needs}
 use Rattle.words_packing.specs.Pack.{numberOf, lowBytes, eights, unpacked, unpackedLength}
 use Rattle.words_packing.proofs.NumberBytes.{below-known}
 use Rattle.words_packing.proofs.WrittenSoFar.{Filling, fill-start, fill-more, fill-end}
-use Rattle.words_packing_back.proofs.UnpackedPair.{pair-at, left-over, unpacked-last, unpacked-none}
-use Rattle.words_packing_back.proofs.unpacker.write_unpacked_eights.Statement.{statement}
-use Rattle.words_packing_back.proofs.unpacker.write_unpacked_eights.Tie as tie
+use Rattle.words_packing.proofs.UnpackedPair.{pair-at, left-over, unpacked-last, unpacked-none}
+use Rattle.words_packing.proofs.unpacker.write_unpacked_eights.Statement.{statement}
+use Rattle.words_packing.proofs.unpacker.write_unpacked_eights.Tie as tie
 
 abbrev Inv-loop : tie.InvT-loop
 Inv-loop bytes out₀ at₀ i₀ out at i =

@@ -1,18 +1,17 @@
 -- Each turn of unpacking writes what the next 15 bytes say, and the rest is unpacked alike.
 --   unpacking             unpacked-pair, unpacked-last, unpacked-none, pair-at, left-over
---   words as eight bytes  lows, lows-are, put-two
+--   words as eight bytes  put-two
 use mathlib.Core.Path.{_≡_, refl, sym, ap, _∙_}
 use mathlib.Core.Bool.{Bool, true, false, _||_}
 use mathlib.Core.List.{List, [], _∷_, _++_}
 use Prim.Native.Nat.{ℕ, suc, _+_, _*_, _/_, _%_, _^_, _≤_, _<_}
-use native.Mathlib.Nat.{div-div-eq-div-mul}
 use native.Mathlib.Omega.{arith}
 use lib.Dec.{eqb}
 use lib.ListN.{length, take, drop, length-drop, drop-of-length-le}
 use lib.Seq.{length-take-le, take-add, take-all, drop-drop}
 use borrow.Author.Tests.{eqb-true}
 use Rattle.words_packing.specs.Pack.{isPackedLength, numberOf, lowBytes, unpackedPairs, unpacked}
 use Rattle.words_packing.proofs.NumberBytes.{Below, below-take, below-drop, number-join, number-so, number-div}
 
 -- UNPACKING: the first word is in the high eight bytes of 15, the second in the low eight
 high-part : (xs : List ℕ) → 15 ≤ length xs → Below 256 xs → numberOf 0 (take 15 xs) / 2 ^ 56 ≡ numberOf 0 (take 8 xs)
@@ -65,14 +64,7 @@ left-over n at r m h g = ways (eqb (n % 15) 0) (eqb (n % 15) 8) refl refl r
     ways false true ea eb e = let z = eqb-true (n % 15) 8 eb in omega arith
     ways false false ea eb e = absurd (let z : _≡_ {A = ℕ} 0 1 = cc in omega arith)
 
--- WORDS AS EIGHT BYTES: eight stores, as the code writes them
-abbrev pub lows : ℕ → List ℕ
-lows w = w % 256 ∷ w / 2 ^ 8 % 256 ∷ w / 2 ^ 16 % 256 ∷ w / 2 ^ 24 % 256 ∷ w / 2 ^ 32 % 256 ∷ w / 2 ^ 40 % 256 ∷ w / 2 ^ 48 % 256 ∷ w / 2 ^ 56 % 256 ∷ []
-
-pub lows-are : (w : ℕ) → lows w ≡ lowBytes 8 w
-lows-are w = simp div-div-eq-div-mul
-
--- two of them into 16 bytes
+-- WORDS AS EIGHT BYTES: two of them into 16
 pub put-two : (out x y : List ℕ) (a b : ℕ) → length out ≡ 16 → x ≡ lowBytes 8 a → y ≡ lowBytes 8 b
     → take 8 (x ++ drop 8 out) ++ (y ++ drop 8 (drop 8 (x ++ drop 8 out))) ≡ lowBytes 8 a ++ lowBytes 8 b
 put-two out x y a b h ex ey =

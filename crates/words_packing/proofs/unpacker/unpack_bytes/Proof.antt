@@ -4,11 +4,11 @@ use Prim.Native.Nat.{_/_}
 use native.Mathlib.Omega.{arith}
 use lib.ListN.{length}
 use borrow.Author.Needs.{needs}
 use Rattle.words_packing.specs.Pack.{spaceAfter}
 use Rattle.words_packing.proofs.PackAnswer.{accepted}
-use Rattle.words_packing_back.proofs.UnpackAnswer.{unpack-eights-odd, unpack-eights-even, unpack-eights-done}
-use Rattle.words_packing_back.proofs.unpacker.unpack_bytes.Statement.{statement}
-use Rattle.words_packing_back.proofs.unpacker.unpack_bytes.Tie as tie
+use Rattle.words_packing.proofs.UnpackAnswer.{unpack-eights-odd, unpack-eights-even, unpack-eights-done}
+use Rattle.words_packing.proofs.unpacker.unpack_bytes.Statement.{statement}
+use Rattle.words_packing.proofs.unpacker.unpack_bytes.Tie as tie
 
 returns : tie.Need-returns
 returns c = unpack-eights-odd (c .before .before .before .args .bytes .now) (c .before .before .before .args .out .now) (c .if1 .taken)

@@ -3,10 +3,10 @@ use mathlib.Core.Path.{_≡_}
 use mathlib.Core.Bool.{true}
 use lib.ListN.{length}
 use native.Mathlib.Omega.{arith}
 use Rattle.words_packing.specs.Pack.{isPackedLength}
 use Rattle.words_packing.proofs.PackAnswer.{answer-length, answer-whole, answer-short, answer-tail, answer-last}
-use Rattle.words_packing_back.proofs.unpacker.unpackable.Statement.{statement}
-use Rattle.words_packing_back.proofs.unpacker.unpackable.Tie as tie
+use Rattle.words_packing.proofs.unpacker.unpackable.Statement.{statement}
+use Rattle.words_packing.proofs.unpacker.unpackable.Tie as tie
 
 mul-size : tie.Need-mul-size
 mul-size c = omega arith

@@ -1,9 +1,9 @@
 -- Right because the two parts lie beside one another and are all of the space (`put-two`).
 use native.Mathlib.Omega.{arith}
 use borrow.Author.Needs.{needs}
-use Rattle.words_packing_back.proofs.UnpackedPair.{put-two}
-use Rattle.words_packing_back.proofs.unpacker.put_two.Statement.{statement}
-use Rattle.words_packing_back.proofs.unpacker.put_two.Tie as tie
+use Rattle.words_packing.proofs.UnpackedPair.{put-two}
+use Rattle.words_packing.proofs.unpacker.put_two.Statement.{statement}
+use Rattle.words_packing.proofs.unpacker.put_two.Tie as tie
 
 sub-put-low : tie.Need-sub-put-low
 sub-put-low c = omega arith
