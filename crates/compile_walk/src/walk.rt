@@ -3,7 +3,7 @@ ghost use mathlib.Core.Path.{_≡_};
 ghost use Prim.Native.Nat.{_+_, _<_};
 ghost use lib.ListN.{length};
 ghost use Rattle.compile_walk.specs.TableView.{shownNamed, shownOf, shownIn, rowView, tableView};
-ghost use Rattle.compile_walk.specs.Steps.{walkState, putOf, visitOf, runAt, deckOf, decksOf};
+ghost use Rattle.compile_walk.specs.Steps.{walkState, putOf, runAt, deckOf, decksOf};
 use crate::Stop;
 use crate::Walked;
 use crate::calls::Asked;
@@ -70,45 +70,6 @@ fn put_text(
     put(image, &line[..n], c, writes, out, lines, calls)
 }
 
-// One card of a deck, with so many levels left.
-fn step(
-    image: &[u64],
-    table: &[u64],
-    c: Seen,
-    depth: usize,
-    writes: bool,
-    out: &mut [u8],
-    lines: usize,
-    calls: usize,
-) -> Walked
-    requires { ⌜ (c .seq < 262144) × (c .owner < 65536) ⌝ }
-    ensures { λ r. ⌜ walkState r (now (out .exit)) ≡ visitOf writes (tableView (now (image .entry)) (now (table .entry))) depth (c .active) (shownOf (now (image .entry)) c) lines calls (now (out .entry)) ⌝ }
-{
-    if !c.active {
-        return Walked::On(lines, calls);
-    }
-    if !star_at(image, c.text) {
-        return put_text(image, c, writes, out, lines, calls);
-    }
-    let mut line = [0u8; COLUMNS];
-    let n = line_of(image, c.text, c.next, &mut line);
-    match asks(table, &line[..n], depth, calls) {
-        Asked::Text => put(image, &line[..n], c, writes, out, lines, calls),
-        Asked::Stopped(k) => Walked::Halted(k, c.owner, c.seq),
-        Asked::Opened(from, to) => walk(
-            image,
-            table,
-            from,
-            to,
-            depth - 1,
-            writes,
-            out,
-            lines,
-            calls + 1,
-        ),
-    }
-}
-
 // The cards from a place up to another.
 fn walk(
     image: &[u64],
@@ -131,7 +92,20 @@ fn walk(
             return Walked::On(l, n);
         }
         let c = see(image, at);
-        match step(image, table, c, depth, writes, out, l, n) {
+        let r = if !c.active {
+            Walked::On(l, n)
+        } else if !star_at(image, c.text) {
+            put_text(image, c, writes, out, l, n)
+        } else {
+            let mut line = [0u8; COLUMNS];
+            let m = line_of(image, c.text, c.next, &mut line);
+            match asks(table, &line[..m], depth, n) {
+                Asked::Text => put(image, &line[..m], c, writes, out, l, n),
+                Asked::Stopped(k) => Walked::Halted(k, c.owner, c.seq),
+                Asked::Opened(f, t) => walk(image, table, f, t, depth - 1, writes, out, l, n + 1),
+            }
+        };
+        match r {
             Walked::On(l2, n2) => {
                 l = l2;
                 n = n2;

@@ -84,9 +84,9 @@ isAt ws k = isLastWord (getD ws (k - 1) 0) && not (any isLastWord (take (k - 1) 
 unfoldable pub FormSpare : Type 0
 FormSpare =
     T (allOf (
-      not (all isWord overWord)
-      ∷ isAt overWord 1
-      ∷ formDiffers overWord 1
-      ∷ all isWord endedTwice
-      ∷ not (isAt endedTwice 2)
-      ∷ formDiffers endedTwice 2 ∷ []))
+    not (all isWord overWord)
+    ∷ isAt overWord 1
+    ∷ formDiffers overWord 1
+    ∷ all isWord endedTwice
+    ∷ not (isAt endedTwice 2)
+    ∷ formDiffers endedTwice 2 ∷ []))
