@@ -1,6 +1,6 @@
 -- CODE. The sum over the space that a call was lent.
 --     mixed     one number more
---     sumOf     all of them, from 0
+--     sumFrom, sumOf     all of them, from 0
 --     halves    a word counts as its low 32 bits and then its high 32 bits
 -- Assumes nothing.
 use Prim.Native.Nat.{ℕ, _+_, _*_, _/_, _%_}

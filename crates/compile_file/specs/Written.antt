@@ -1,6 +1,6 @@
 -- CODE. Text in a space.
 --   Wrote        a text at the front of a space, and nothing beyond it
---   afterBlanks  a field from its first byte on that is no blank
+--   noBlank, afterBlanks  a field from its first byte on that is no blank
 use Prim.Native.Nat.{ℕ}
 use mathlib.Core.Path.{_≡_}
 use mathlib.Core.Bool.{Bool, not}

@@ -1,5 +1,5 @@
 -- CODE. What a line is answered to be as a deck card's (RULES, "Decks").
---   deckLineOf
+--   deckAnswer, deckLineOf
 use Prim.Native.Nat.{ℕ}
 use mathlib.Core.Bool.{Bool, true, false}
 use Rattle.library.specs.Library.{DeckLine, notDeck, badDeck, deckOf}

@@ -1,10 +1,10 @@
 -- MEANING. The library check (RULES, "The check"): rows 1 to 10 of the table, their order and their places.
 --   answers            Checking, checked, faultNumber, checkedNumber, checkedPlace, orElse
 --   the layout         directoryCount, deckCount, directoryOf, deckWordsOf, cardsPlace
---   rows over words    row1, row2, tableFaults, row3, firstBad, okEntry, okDeckWord, row4
---   rows 5 and 6       Stored, isLastWord, rawBytes, used, byteOf, Fields, fieldsOf, cardOf, rising, okByte, formTests, okForm, Cards, readCard, readCards
---   rows over cards    isDeckCard, okDeckCard, row7, aheadOfDecks, okTarget, okYank, row8, sharesBoth, row10, okBits, row9
---   the check          Parted, partedBy, libraryOf, checkCards, check
+--   rows over words    firstOf, faultIf, row1, row2, tableFaults, row3, firstBad, okEntry, okDeckWord, row4
+--   rows 5 and 6       Stored, isLastWord, threes, rawBytes, used, byteOf, Fields, fieldsOf, cardOf, rising, okByte, firstActivates, formTests, okForm, Cards, also, storedOf, readCard, readCards
+--   rows over cards    isDeckLine, isDeckCard, okDeckCard, row7, firstFailing, aheadOfDecks, okTarget, okYank, row8, sharesBoth, row10From, row10, okBits, row9From, row9
+--   the check          Parted, partAt, partedBy, libraryOf, checkCards, check
 use Prim.Native.Nat.{ℕ, zero, suc, _+_, _/_, _%_, _^_}
 use mathlib.Core.Bool.{Bool, true, false, _&&_, _||_, not, Bool·beq}
 use mathlib.Core.List.{List, [], _∷_, map}

@@ -2,8 +2,8 @@
 --   bytes, cards, decks, libraries     Byte, Card, Deck, Library
 --   of a card                          history
 --   of a deck                          deckCard, deckCards
---   of a library                       parts, stream, deckNames, fresh
---   of the directory                   reserved, purged, nameAt, hasName, entryOf
+--   of a library                       parts, joined, stream, deckNames, fresh
+--   of the directory                   reserved, purged, nameAt, hasName, entryFrom, entryOf
 --   of a line                          DeckLine, isDeckKind, deckAsked, deckLine
 -- Yank and activity bits are not here: they follow from the histories (Yanks.antt), and the image has them (Image.antt).
 use Prim.Native.Nat.{ℕ, zero, suc}

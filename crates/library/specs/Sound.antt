@@ -1,7 +1,7 @@
 -- MEANING. What makes a library sound (RULES, "Text", "Directory", "Deck list", "Cards", "Decks", "Limits"), said of the library and not of its words.
 --   of a list          noTwo
---   of a line          soundLine
---   of a history       isEntry, neverFalls
+--   of a line          lineTests, soundLine
+--   of a history       numberTests, isEntry, neverFalls
 --   of the directory   soundEntry, sameName
 --   of a card          sameCard, SoundCard, BeginsNoDeck
 --   of YANK$$$         namesLowerSets

@@ -1,7 +1,7 @@
 -- CODE. What stands in an image, by places, whatever its words are.
---   a card          textAt, nextAt, seenAt
+--   a card          textFrom, textAt, nextAt, seenAt
 --   its line        textOf, lineIn, lineInto, starAt
---   cards in order  placesIn
+--   cards in order  placesFrom, placesIn
 use Prim.Native.Nat.{ℕ, zero, suc, _+_, _-_, _/_, _%_, _^_}
 use mathlib.Core.Bool.{Bool}
 use mathlib.Core.List.{List, [], _∷_, _++_}

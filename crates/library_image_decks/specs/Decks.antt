@@ -1,5 +1,5 @@
 -- CODE. The decks of an image, by places, whatever its words are.
---   a deck card    titleOf, titleIn, isTitle, titleName, kindNumber
+--   a deck card    titleFor, titleOf, titleIn, isTitle, titleName, kindNumber
 --   the decks      endOf, deckEnd, rowOf, rowsOf, rowsIn, tableOf, tableInto, Tables
 use Prim.Native.Nat.{ℕ, _≤_}
 use mathlib.Core.Path.{_≡_}

@@ -2,7 +2,7 @@
 -- none leads to the first entry, where every path begins.
 --   a name's path         startOf, and the ways of `library_index_twice`
 --   where its ways end    walked, entryNumber, endWay
---   the tree              grown, grownTo, planted
+--   the tree              led, grown, grownTo, planted
 --   a name's number       entryBy, Knows
 use Prim.Native.Nat.{ℕ, zero, suc, _+_, _*_, _/_, _%_, _^_}
 use mathlib.Core.Path.{_≡_}

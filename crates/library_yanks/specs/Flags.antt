@@ -1,7 +1,7 @@
 -- CODE. Which sets are yanked, over the words of the cards of YANK$$$, whatever they are (RULES, "When a card is active").
---   a card             inForce, namesIn, marked, acted
---   the cards          backward, owned, actedAll
---   the flags          fromTop, settledFlags
+--   a card             inForce, namesIn, mark, marked, acted
+--   the cards          onto, backward, owned, actedAll
+--   the flags          fromTop, top, settledFlags
 --   the theorem        SettledYanked
 --   how they are read  Chain, Linked
 use Prim.Native.Nat.{ℕ, zero, suc, _<_}

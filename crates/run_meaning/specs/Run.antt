@@ -1,5 +1,5 @@
 -- MEANING. The correction run (RULES, "The run"; rows 1 to 10 and 19 to 32).
---   over lines           Steps, steps
+--   over lines           Steps, onward, steps
 --   over a library       Updated, fitted, update
 --   over images          Running, fromUpdated, runChecked, running
 --   the answer           ran, runInto

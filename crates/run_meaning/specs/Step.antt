@@ -6,7 +6,7 @@
 --   units                 isKnown, newDeck, afterDeck, putDeck, afterIdent, putIdent
 --   corrections           inSet, withPlace
 --   YANK                  isUnknown, isNoSet, afterYank, putYank
---   places of cards       Spot, isCardOf, find, isBackwards, isYankPart, isDeckSpot, isBarred, placeAfter
+--   places of cards       Spot, spotIn, findFrom, isCardOf, find, isBackwards, isYankPart, isDeckSpot, isBarred, placeAfter
 --   INSERT, BEFORE        insertAfter, insertBefore
 --   DELETE, RESTORE       marked, overRange, numberAt, markIn, afterMark, markRange
 --   a line                obey, step

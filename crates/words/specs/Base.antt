@@ -1,6 +1,6 @@
 -- MEANING. Small words that the definitions are written in.
 --   choice        if_then_else_
---   quoted text   bytes, byte
+--   quoted text   bytesFrom, bytes, byte
 --   lists         any, all, allOf, anyOf, member, same, isNil, placeFrom
 --   words         isWord
 --   cutting       takeUntil, dropUntil, beyond, into, split

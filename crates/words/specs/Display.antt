@@ -1,6 +1,6 @@
 -- MEANING. The display code (RULES, "Text"): a code of six bits for each of 64 characters.
---   the chart        chart, codeOf, inChart, letter
---   quoted text      codes, codesWord
+--   the chart        chart, codeFrom, codeOf, inChart, letter
+--   quoted text      codes, codesOnto, codesWord
 --   named bytes      blank, comma, point, star, slash
 use Prim.Native.Nat.{ℕ, suc, _+_, _*_}
 use Prim.Native.String.{String}

@@ -1,5 +1,5 @@
 -- MEANING. Names as words, and decimal numbers (RULES, "Names and numbers", "The compile file").
---   names               isNameByte, isName, nameWord, nameOf, isNameWord
+--   names               isNameByte, isName, packCodes, nameWord, nameOf, isNameWord
 --   numbers as read     isDigit, decimal, isNumber, numberRead
 --   numbers as written  digits, numeral, rightJustified
 --   columns             leftJustified

@@ -1,7 +1,7 @@
 -- MEANING. A line and the words it is written in (RULES, "Text"). A line is the list of its bytes, one to a column.
 --   without trailing blanks      trim
---   line to codes                gap, blanks, sign, squeeze, compress
---   codes to words and back      wordsOf, lowCodes, allCodes
+--   line to codes                gap, shortRun, longRuns, blanks, sign, squeeze, compress
+--   codes to words and back      fill, wordsOf, lowCodes, allCodes
 --   line to words                textWords
 --   words to line                columnsOf, says, isText
 use Prim.Native.Nat.{ℕ, zero, suc, _+_, _-_, _*_, _/_, _%_, _^_}

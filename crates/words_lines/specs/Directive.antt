@@ -1,12 +1,12 @@
 -- MEANING. Lines and what they ask (RULES, "Lines", "Directives"; rows 20 to 23).
 --   lines of a stream      isEnd, lines
---   names of directives    table, kindOf
---   a directive's parts    starts, endsName, nameOfLine, kindOfLine, afterName, field, isClean, isComma, params
+--   names of directives    Spelt, spelt, table, kindIn, kindOf
+--   a directive's parts    starts, endsName, nameOfLine, kindOfLine, passed, afterName, field, isClean, isComma, params
 --   cards                  isCard, cardNamed
---   what a field asks      oneName, oneCard, range, asks
+--   what a field asks      oneName, oneCard, range, formed, asks
 --   what a line asks       asked, directive, lineNumber
 --   YANK's names           yankNames
---   CALL                   callOf
+--   CALL                   callNames, callOf
 use Prim.Native.Nat.{ℕ}
 use Prim.Native.String.{String}
 use mathlib.Core.Bool.{Bool, true, false, _&&_, _||_, not}

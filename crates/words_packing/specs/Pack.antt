@@ -1,9 +1,9 @@
 -- MEANING. Words packed to bytes and back (RULES, "Packing"; rows 50, 51 and 53).
 --   bytes of a number       bytesOf, numberOf
 --   packing                 packed, packedLength, packing, packInto
---   unpacking               unpacked, unpackedLength, isPackedLength, hasTail, unpacking, unpackInto
+--   unpacking               lastWord, unpackedPairs, unpacked, unpackedLength, isPackedLength, hasTail, unpacking, unpackInto
 --   the space               spaceAfter
---   words as eight bytes    eights, wordsOfEights, packingEights, packEightsInto, timesEight, unpackingEights, unpackEightsInto
+--   words as eight bytes    lowBytes, eights, lowNumber, wordsFrom, wordsOfEights, packingEights, packEightsInto, timesEight, unpackingEights, unpackEightsInto
 --   the table's numbers     packingNumber, packingValue
 use Prim.Native.Nat.{ℕ, zero, suc, _+_, _-_, _*_, _/_, _%_, _^_}
 use mathlib.Core.Bool.{Bool, _&&_, _||_, not}

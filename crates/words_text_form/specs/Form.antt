@@ -1,6 +1,6 @@
 -- CODE. The one right form of a text, code by code (RULES, "Text"). That it is `isText`: `form-is-text` in proofs/OneForm.antt.
 --   what may follow      full, one, free, signed, start, ended, pairOrEnd, pairNext, colonNext, refused
---   one code             zeroAfter, gapAfter, firstCode, endAfter, secondCode, fillAfter, step, fieldsOf, columnsIn
+--   one code             zeroAfter, gapAfter, firstCode, endAfter, secondCode, fillAfter, step, fieldsFrom, fieldsOf, columnsIn
 --   codes                after, count, mayEnd
 --   words                afterWord, countWord, endsFull, inForm
 use Prim.Native.Nat.{ℕ, zero, suc, _+_, _*_}
