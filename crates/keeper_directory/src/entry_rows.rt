@@ -17,6 +17,7 @@ use crate::kinds::SET;
 use crate::kinds::put_kinds;
 use keeper_card::Told;
 use library::Checked;
+use library::DIRECTORY;
 
 // a row: the name in 9 columns, blanks after it, what the entry is, whether it is yanked
 const NAME: usize = 9;
@@ -33,19 +34,13 @@ const PURGED: u8 = b'P';
 
 const YANKED: u8 = b'Y';
 
-// an entry that is purged
-const PURGED_WORD: u64 = 0o20;
-
 // a place for each directory number, 0 to 1,023
 const ENTRIES: usize = 1024;
-
-// the directory stands after the two words of the header
-const DIRECTORY: usize = 2;
 
 fn kind_byte(w: u64, kind: u8) -> u8
     ensures { λ r. ⌜ r ≡ purgedOr w kind ⌝ }
 {
-    if w == PURGED_WORD { PURGED } else { kind }
+    if w == library::PURGED { PURGED } else { kind }
 }
 
 fn mark_byte(flag: u64) -> u8

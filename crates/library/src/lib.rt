@@ -4,11 +4,28 @@ ghost use Rattle.library.specs.Check.{faultNumber, checkedNumber, checke
 
 mod asks;
 mod fixed;
+mod layout;
 mod limits;
 
 pub use asks::asks_yank;
 pub use fixed::header_word;
 pub use fixed::reserved_word;
+pub use layout::ABOVE_BYTES;
+pub use layout::ACTIVATING;
+pub use layout::ACTIVE;
+pub use layout::COUNTS;
+pub use layout::DIRECTORY;
+pub use layout::FIELD;
+pub use layout::LAST;
+pub use layout::MOST_CARDS;
+pub use layout::MOST_DECKS;
+pub use layout::MOST_ENTRIES;
+pub use layout::MOST_HEADS;
+pub use layout::MOST_WORDS;
+pub use layout::NUMBER;
+pub use layout::PURGED;
+pub use layout::UPPER;
+pub use layout::YANKED;
 pub use limits::within_limits;
 
 // Why an image is no library: rows 1 to 10 of the table.

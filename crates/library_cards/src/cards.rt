@@ -8,33 +8,22 @@ ghost use Rattle.library.specs.Check.{isLastWord};
 ghost use Rattle.library_tables.specs.Found.{found, Sized, Tabled};
 ghost use Rattle.library_cards.specs.Found.{cardsRead, cardsAnswer, answerFrom, textCount, textFound, endAt};
 ghost use Rattle.library.specs.WordForm.{okNumber, okFull, okLast, okFurther, firstTests, wordTests};
+use library::ABOVE_BYTES;
 use library::Checked;
+use library::DIRECTORY;
+use library::FIELD;
 use library::Fault;
 use library::Found;
-use library_tables::DIRECTORY;
-use library_tables::PURGED;
-
-// bit 59, in the last word of a history
-const LAST: u64 = 0o40000000000000000000;
-// above the fields of 18 bits, a further history word has bit 59 or nothing; the first has activity too, and four bits that are zero
-const SPARE: u64 = 0o1000000000000000000;
+use library::LAST;
+use library::MOST_CARDS;
+use library::MOST_HEADS;
+use library::NUMBER;
+use library::PURGED;
+use library::UPPER;
 
 const LAST_ALONE: u64 = 0o40;
 
 const ZEROS: u64 = 0o20;
-// of a first word: how many words of text in 53-36, the sequence number in 35-18, the owner's byte in 17-00
-const TEXT: u64 = 0o1000000000000;
-
-const SEQUENCE: u64 = 0o1000000;
-
-const FIELD: u64 = 0o1000000;
-// of a byte, the number of an entry in 15-00
-const NUMBER: u64 = 0o200000;
-// 64 bytes: one in the first word, and three in each of 21 more
-const MOST_HEADS: usize = 22;
-
-const MOST_CARDS: usize = 16383;
-
 // How many words stand ahead of a card's text: those up to the first with bit 59.
 fn heads_of(image: &[u64], at: usize) -> Found
     requires { ⌜ at ≤ length (now image) ⌝ }
@@ -73,11 +62,11 @@ fn full_ok(directory: &[u64], least: u64, w: u64) -> bool
     ensures { λ r. ⌜ r ≡ okFull (now (directory .entry)) least w ⌝ }
     ensures { λ r. ⌜ (r ≡ true → 0 < w % 2 ^ 16) ⌝ }
 {
-    if w / SPARE != 0 {
+    if w / ABOVE_BYTES != 0 {
         return false;
     }
-    let a = w / TEXT % FIELD;
-    let b = w / SEQUENCE % FIELD;
+    let a = w / UPPER % FIELD;
+    let b = w / FIELD % FIELD;
     if !number_ok(directory, least, a) {
         return false;
     }
@@ -92,11 +81,11 @@ fn last_ok(directory: &[u64], least: u64, w: u64) -> bool
     requires { ⌜ 0 < least ⌝ }
     ensures { λ r. ⌜ r ≡ okLast (now (directory .entry)) least w ⌝ }
 {
-    if w / SPARE != LAST_ALONE {
+    if w / ABOVE_BYTES != LAST_ALONE {
         return false;
     }
-    let a = w / TEXT % FIELD;
-    let b = w / SEQUENCE % FIELD;
+    let a = w / UPPER % FIELD;
+    let b = w / FIELD % FIELD;
     let c = w % FIELD;
     if !number_ok(directory, least, a) {
         return false;
@@ -138,10 +127,10 @@ fn first_ok(directory: &[u64], w: u64) -> bool
     ensures { λ r. ⌜ r ≡ allOf (firstTests (now (directory .entry)) w) ⌝ }
     ensures { λ r. ⌜ (r ≡ true → 0 < w % 2 ^ 16) ⌝ }
 {
-    if w / SPARE % ZEROS != 0 {
+    if w / ABOVE_BYTES % ZEROS != 0 {
         return false;
     }
-    if w / SEQUENCE % FIELD == 0 {
+    if w / FIELD % FIELD == 0 {
         return false;
     }
     if w / NUMBER % 2 != 1 {
@@ -159,7 +148,7 @@ fn words_ok(image: &[u64], directory: &[u64], at: usize, k: usize) -> bool
         return false;
     }
     let w = image[at];
-    if image.len() - at - k < (w / TEXT % FIELD) as usize {
+    if image.len() - at - k < (w / UPPER % FIELD) as usize {
         return false;
     }
     if !first_ok(directory, w) {
@@ -174,7 +163,7 @@ fn single_ok(image: &[u64], directory: &[u64], at: usize) -> bool
     ensures { λ r. ⌜ r ≡ allOf (wordTests (now (directory .entry)) (drop at (now (image .entry))) 1) ⌝ }
 {
     let w = image[at];
-    if image.len() - at - 1 < (w / TEXT % FIELD) as usize {
+    if image.len() - at - 1 < (w / UPPER % FIELD) as usize {
         return false;
     }
     first_ok(directory, w)
@@ -210,7 +199,7 @@ fn end_of(image: &[u64], at: usize, from: usize) -> Found
     requires { ⌜ from + textCount (now image) at ≤ length (now image) ⌝ }
     ensures { λ r. ⌜ r ≡ endAt (now (image .entry)) at from ⌝ }
 {
-    let end = from + (image[at] / TEXT % FIELD) as usize;
+    let end = from + (image[at] / UPPER % FIELD) as usize;
     if words_text_form::is_text(&image[from..end]) {
         return Found::At(end);
     }

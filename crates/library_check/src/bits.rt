@@ -8,15 +8,12 @@ ghost use Rattle.words.specs.Base.{all};
 ghost use Rattle.library.specs.Check.{rawBytes};
 ghost use Rattle.library_yanks.specs.Bytes.{part, flagged};
 ghost use Rattle.library_check.specs.Rows.{okBit, okCardBits, Row9};
+use library::FIELD;
 use library::Found;
+use library::NUMBER;
 use library::Seen;
-use library_image::FIELD;
-use library_image::NUMBER;
-use library_yanks::FIRST_BYTE;
-use library_yanks::SECOND_BYTE;
-
-// of a byte, bit 17
-const YANKED: u64 = 0o400000;
+use library::UPPER;
+use library::YANKED;
 
 fn bit_ok(flags: &[u64], b: u64) -> bool
     ensures { λ r. ⌜ r ≡ okBit (flagged (now (flags .entry))) b ⌝ }
@@ -33,10 +30,10 @@ fn bit_ok(flags: &[u64], b: u64) -> bool
 fn word_ok(flags: &[u64], w: u64) -> bool
     ensures { λ r. ⌜ r ≡ all (okBit (flagged (now (flags .entry)))) (w / 2 ^ 36 % 2 ^ 18 ∷ w / 2 ^ 18 % 2 ^ 18 ∷ w % 2 ^ 18 ∷ []) ⌝ }
 {
-    if !bit_ok(flags, w / FIRST_BYTE % FIELD) {
+    if !bit_ok(flags, w / UPPER % FIELD) {
         return false;
     }
-    if !bit_ok(flags, w / SECOND_BYTE % FIELD) {
+    if !bit_ok(flags, w / FIELD % FIELD) {
         return false;
     }
     bit_ok(flags, w % FIELD)

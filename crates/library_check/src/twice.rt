@@ -6,9 +6,9 @@ ghost use Prim.Native.Nat.{_+_, _*_, _/_, _%_, _^_, _≤_};
 ghost use lib.ListN.{length, take};
 ghost use Rattle.library_check.specs.Keys.{Listed, Stands};
 ghost use Rattle.library_check.specs.Rows.{Row10};
+use library::FIELD;
 use library::Found;
-use library_image::FIELD;
-use library_image::NUMBER;
+use library::NUMBER;
 
 const MOST_CARDS: usize = 16384;
 

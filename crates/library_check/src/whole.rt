@@ -11,9 +11,9 @@ use crate::deck_cards::decks_fault;
 use crate::twice::twice_fault;
 use crate::yanks::yanks_fault;
 use library::Checked;
+use library::DIRECTORY;
 use library::Fault;
 use library::Found;
-use library_tables::DIRECTORY;
 
 // a flag for each directory number, 0 to 1,023
 const FLAGS: usize = 1024;

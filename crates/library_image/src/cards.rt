@@ -5,24 +5,16 @@ ghost use lib.Dec.{leb};
 ghost use lib.ListN.{length, getD};
 ghost use Rattle.words.specs.Base.{if_then_else_};
 ghost use Rattle.library_image.specs.Places.{textAt, seenAt, starAt, lineIn, lineInto};
+use library::ACTIVE;
+use library::FIELD;
+use library::LAST;
+use library::NUMBER;
 use library::Seen;
+use library::UPPER;
 use words_text_expand::Expanded;
 
 // the most columns of a line
 pub const COLUMNS: usize = 80;
-// bit 59, in the last word of a history
-const LAST: u64 = 0o40000000000000000000;
-// 58, activity
-const ACTIVE: u64 = 0o20000000000000000000;
-// of a first word: how many words of text in 53-36, the sequence number in 35-18, the owner's byte in 17-00
-const TEXT: u64 = 0o1000000000000;
-
-const SEQUENCE: u64 = 0o1000000;
-
-// a history byte, of 18 bits
-pub const FIELD: u64 = 0o1000000;
-// of a byte, the number of an entry in 15-00
-pub const NUMBER: u64 = 0o200000;
 // of a text's word, the first of ten codes
 const FIRST: u64 = 0o1000000000000000000;
 
@@ -70,9 +62,9 @@ pub fn see(image: &[u64], at: usize) -> Seen
     let text = text_at(image, at);
     Seen {
         text: text,
-        next: least(text + (w / TEXT % FIELD) as usize, image.len()),
+        next: least(text + (w / UPPER % FIELD) as usize, image.len()),
         owner: w % NUMBER,
-        seq: w / SEQUENCE % FIELD,
+        seq: w / FIELD % FIELD,
         active: w / ACTIVE % 2 == 1,
     }
 }

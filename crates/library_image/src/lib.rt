@@ -2,8 +2,6 @@
 mod cards;
 
 pub use cards::COLUMNS;
-pub use cards::FIELD;
-pub use cards::NUMBER;
 pub use cards::least;
 pub use cards::line_of;
 pub use cards::see;

@@ -8,6 +8,9 @@ ghost use Rattle.library_image_decks.specs.Decks.{kindNumber, titleName,
 use crate::titles::Title;
 use crate::titles::deck_end;
 use crate::titles::title_of;
+use library::COUNTS;
+use library::DIRECTORY;
+use library::FIELD;
 use library_image::see;
 use library_image::word_at;
 
@@ -25,12 +28,6 @@ const NORMAL: u64 = 0;
 pub const COMMON: u64 = 1;
 // a library has at most 255 decks
 pub const TABLE: usize = 1024;
-// the second word of an image: how many entries in 35-18, how many decks in 17-00
-const COUNTS: usize = 1;
-
-const COUNT: u64 = 0o1000000;
-
-const DIRECTORY: usize = 2;
 
 fn kind_of(t: Title) -> u64
     ensures { λ r. ⌜ r ≡ kindNumber t ⌝ }
@@ -68,7 +65,7 @@ pub fn cards_place(image: &[u64]) -> usize
     ensures { λ r. ⌜ r ≡ cardsPlace (now (image .entry)) ⌝ }
 {
     let counts = word_at(image, COUNTS);
-    DIRECTORY + (counts / COUNT) as usize + (counts % COUNT) as usize
+    DIRECTORY + (counts / FIELD) as usize + (counts % FIELD) as usize
 }
 
 // A row for each deck, as many as there is room for.

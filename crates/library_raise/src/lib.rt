@@ -5,17 +5,11 @@ ghost use Prim.Native.Nat.{_+_, _≤_, _<_};
 ghost use lib.ListN.{length, take, drop};
 ghost use Rattle.library.specs.CardWords.{furtherLen, cardLen};
 ghost use Rattle.library_raise.specs.Raised.{byteRaised, wordRaised, furtherRaised, cardRaised, raisedWords};
-
-// A field of 18 bits: a history byte, the sequence number, the words of text.
-const FIELD: u64 = 262144;
-// What one more is worth in bits 53-36: the words of text, or the first of three bytes.
-const UPPER: u64 = 68719476736;
-// Bit 54: above it a further history word has only the mark of the last.
-const ABOVE_BYTES: u64 = 18014398509481984;
-// Bit 59, in the last word of a history.
-const LAST: u64 = 576460752303423488;
-// Directory numbers, bits 15-00 of a byte, end below this.
-const NUMBERS: u64 = 65536;
+use library::ABOVE_BYTES;
+use library::FIELD;
+use library::LAST;
+use library::NUMBER;
+use library::UPPER;
 
 // A byte with its number raised; an unused one is zero and stays. Numbers go round, so that no word is refused.
 fn raise_byte(b: u64, n: u64) -> u64
@@ -25,7 +19,7 @@ fn raise_byte(b: u64, n: u64) -> u64
     if b == 0 {
         return 0;
     }
-    b / NUMBERS * NUMBERS + (b % NUMBERS + n % NUMBERS) % NUMBERS
+    b / NUMBER * NUMBER + (b % NUMBER + n % NUMBER) % NUMBER
 }
 
 fn raise_word(x: u64, n: u64) -> u64

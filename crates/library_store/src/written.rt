@@ -5,10 +5,8 @@ ghost use mathlib.Core.List.{_∷_, _++_};
 ghost use lib.ListN.{length, drop};
 ghost use Rattle.library.specs.Image.{header};
 ghost use Rattle.library_store.specs.Stored.{libraryWords, hasRoom, libraryInto};
+use library::DIRECTORY;
 use words_lists::put_words;
-
-// The words of the header.
-const AHEAD: usize = 2;
 
 // A count's field, of 18 bits, ends below this.
 const FIELD: usize = 262144;
@@ -23,7 +21,7 @@ fn has_room(directory: &[u64], decks: &[u64], low: &[u64], high: &[u64], room: u
     if FIELD <= decks.len() {
         return false;
     }
-    let tables = AHEAD + directory.len() + decks.len();
+    let tables = DIRECTORY + directory.len() + decks.len();
     if room < tables {
         return false;
     }
@@ -49,10 +47,10 @@ fn put_library(directory: &[u64], decks: &[u64], low: &[u64], high: &[u64], spac
 {
     let n = directory.len();
     let k = decks.len();
-    let cards = AHEAD + n + k;
+    let cards = DIRECTORY + n + k;
     put_header(space, n, k);
-    put_words(directory, space, AHEAD);
-    put_words(decks, space, AHEAD + n);
+    put_words(directory, space, DIRECTORY);
+    put_words(decks, space, DIRECTORY + n);
     put_words(low, space, cards);
     put_words(high, space, cards + low.len());
 }

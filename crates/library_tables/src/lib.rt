@@ -3,7 +3,5 @@ mod first;
 mod tables;
 
 pub use first::table_rows;
-pub use tables::DIRECTORY;
-pub use tables::PURGED;
 pub use tables::decks_of;
 pub use tables::entries_of;

@@ -8,27 +8,20 @@ ghost use Rattle.words_lists.specs.Ahead.{aheadOf};
 ghost use Rattle.words.specs.Names.{isNameWord};
 ghost use Rattle.library.specs.Check.{directoryCount, deckCount, firstBad, okEntry, okDeckWord, row1, row2, row3, row4};
 ghost use Rattle.library_tables.specs.Found.{found, notWord, countFaults, Sized, Tabled};
+use library::COUNTS;
+use library::DIRECTORY;
+use library::FIELD;
 use library::Found;
+use library::MOST_DECKS;
+use library::MOST_ENTRIES;
+use library::MOST_WORDS;
+use library::PURGED;
+use library::UPPER;
 
 const LEAST_WORDS: usize = 3;
 
-const MOST_WORDS: usize = 65536;
 // the first number of more than 60 bits
 const TOO_LARGE: u64 = 0o100000000000000000000;
-// the second word of an image: how many entries in 35-18, how many decks in 17-00
-const COUNTS_AT: usize = 1;
-
-const COUNT: u64 = 0o1000000;
-
-const COUNTS: u64 = 0o1000000000000;
-
-const MOST_ENTRIES: u64 = 1023;
-
-const MOST_DECKS: u64 = 255;
-// an entry that is purged
-pub const PURGED: u64 = 0o20;
-// the directory stands after the two words of the header
-pub const DIRECTORY: usize = 2;
 
 fn large_word(image: &[u64]) -> Found
     ensures { λ r. ⌜ r ≡ found (placeFrom notWord 0 (now (image .entry))) ⌝ }
@@ -71,48 +64,48 @@ pub(crate) fn header_fault(image: &[u64]) -> Found
 pub fn entries_of(image: &[u64]) -> usize
     ensures { λ r. ⌜ (r ≡ directoryCount (now (image .entry))) × (r < 2 ^ 46) ⌝ }
 {
-    if image.len() <= COUNTS_AT {
+    if image.len() <= COUNTS {
         return 0;
     }
-    (image[COUNTS_AT] / COUNT) as usize
+    (image[COUNTS] / FIELD) as usize
 }
 
 // How many names the deck list has.
 pub fn decks_of(image: &[u64]) -> usize
     ensures { λ r. ⌜ (r ≡ deckCount (now (image .entry))) × (r < 2 ^ 18) ⌝ }
 {
-    if image.len() <= COUNTS_AT {
+    if image.len() <= COUNTS {
         return 0;
     }
-    (image[COUNTS_AT] % COUNT) as usize
+    (image[COUNTS] % FIELD) as usize
 }
 
 // Whether the second word is at fault, wherever the tables end.
 fn counts_fault(counts: u64) -> bool
     ensures { λ r. ⌜ r ≡ anyOf (countFaults counts) ⌝ }
 {
-    if COUNTS <= counts {
+    if UPPER <= counts {
         return true;
     }
-    if MOST_ENTRIES < counts / COUNT {
+    if (MOST_ENTRIES as u64) < counts / FIELD {
         return true;
     }
-    if counts % COUNT == 0 {
+    if counts % FIELD == 0 {
         return true;
     }
-    MOST_DECKS < counts % COUNT
+    (MOST_DECKS as u64) < counts % FIELD
 }
 
 pub(crate) fn tables_fault(image: &[u64]) -> Found
     requires { ⌜ 3 ≤ length (now image) ⌝ }
     ensures { λ r. ⌜ r ≡ found (row3 (now (image .entry))) ⌝ }
 {
-    if counts_fault(image[COUNTS_AT]) {
-        return Found::At(COUNTS_AT);
+    if counts_fault(image[COUNTS]) {
+        return Found::At(COUNTS);
     }
     let cards = DIRECTORY + entries_of(image) + decks_of(image);
     if image.len() < cards {
-        return Found::At(COUNTS_AT);
+        return Found::At(COUNTS);
     }
     Found::Nothing
 }

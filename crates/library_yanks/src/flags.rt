@@ -5,21 +5,18 @@ ghost use lib.ListN.{length, getD, set, replicate};
 ghost use Rattle.library_yanks.specs.Flags.{backward, owned, actedAll, fromTop, top, settledFlags, Linked};
 ghost use Rattle.library_index.specs.Names.{Knows};
 use crate::marks::act_card;
+use library::MOST_ENTRIES;
+use library::MOST_WORDS;
 use library_image::least;
 use library_image::see;
 use library_image::word_at;
 use library_index::ALL_WAYS;
 use library_index::plant;
 
-// the most words of cards, and a place for each owner, 0 to 1,023
-const WORDS: usize = 65536;
-
 // most libraries have no more of YANK$$$
 const FEW: usize = 4096;
 
 const OWNERS: usize = 1024;
-
-const HIGHEST: usize = 1023;
 
 // The card at a place goes ahead of its owner's other cards.
 fn put_link(first: &mut [u64], link: &mut [u64], owner: usize, at: usize)
@@ -83,7 +80,7 @@ fn act_down(
     requires { ⌜ Knows (now directory) (now ways) ⌝ }
     ensures { λ _. ⌜ now (flags .exit) ≡ fromTop (now (directory .entry)) (now (cards .entry)) (top (now (directory .entry))) (now (flags .entry)) ⌝ }
 {
-    let mut n = least(directory.len(), HIGHEST);
+    let mut n = least(directory.len(), MOST_ENTRIES);
     while 0 < n {
         act_owner(directory, ways, cards, first, link, n, flags);
         n -= 1;
@@ -114,7 +111,7 @@ fn settle_many(directory: &[u64], ways: &[u16; ALL_WAYS], cards: &[u64], flags: 
     ensures { λ _. ⌜ now (flags .exit) ≡ fromTop (now (directory .entry)) (now (cards .entry)) (top (now (directory .entry))) (replicate (length (now (flags .entry))) 0) ⌝ }
 {
     let mut first = [0u64; OWNERS];
-    let mut link = [0u64; WORDS];
+    let mut link = [0u64; MOST_WORDS];
     settle_linked(directory, ways, cards, &mut first, &mut link, flags);
 }
 
@@ -146,6 +143,6 @@ fn settle_within(directory: &[u64], cards: &[u64], flags: &mut [u64])
 pub fn settle(directory: &[u64], cards: &[u64], flags: &mut [u64])
     ensures { λ _. ⌜ now (flags .exit) ≡ settledFlags (now (directory .entry)) (now (cards .entry)) (length (now (flags .entry))) ⌝ }
 {
-    let n = least(cards.len(), WORDS);
+    let n = least(cards.len(), MOST_WORDS);
     settle_within(directory, &cards[..n], flags);
 }

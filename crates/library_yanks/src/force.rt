@@ -6,14 +6,10 @@ ghost use Prim.Native.Nat.{_/_, _%_, _^_, _≤_, _<_};
 ghost use lib.ListN.{length};
 ghost use Rattle.library.specs.Check.{rawBytes};
 ghost use Rattle.library_yanks.specs.Bytes.{part, flagged, sayByte, sayAll};
-use library_image::FIELD;
-use library_image::NUMBER;
+use library::FIELD;
+use library::NUMBER;
+use library::UPPER;
 use library_image::least;
-
-// the first and second of the three bytes of a further history word
-pub const FIRST_BYTE: u64 = 0o1000000000000;
-
-pub const SECOND_BYTE: u64 = 0o1000000;
 
 // Whether a number is flagged; none beyond the flags is.
 pub fn is_flagged(flags: &[u64], n: u64) -> bool
@@ -41,8 +37,8 @@ fn say_byte(flags: &[u64], so: bool, b: u64) -> bool
 fn say_word(flags: &[u64], so: bool, w: u64) -> bool
     ensures { λ r. ⌜ r ≡ sayAll (flagged (now (flags .entry))) so (w / 2 ^ 36 % 2 ^ 18 ∷ w / 2 ^ 18 % 2 ^ 18 ∷ w % 2 ^ 18 ∷ []) ⌝ }
 {
-    let a = say_byte(flags, so, w / FIRST_BYTE % FIELD);
-    let b = say_byte(flags, a, w / SECOND_BYTE % FIELD);
+    let a = say_byte(flags, so, w / UPPER % FIELD);
+    let b = say_byte(flags, a, w / FIELD % FIELD);
     say_byte(flags, b, w % FIELD)
 }
 

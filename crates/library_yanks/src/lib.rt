@@ -4,7 +4,5 @@ mod force;
 mod marks;
 
 pub use flags::settle;
-pub use force::FIRST_BYTE;
-pub use force::SECOND_BYTE;
 pub use force::is_active;
 pub use force::is_flagged;

@@ -5,21 +5,13 @@ ghost use Prim.Native.Nat.{_+_, _≤_, _<_};
 ghost use lib.ListN.{length, take, drop};
 ghost use Rattle.library_yanks_bits.specs.SettledBits.{flagged, fixByte, fixWord, sayByte, sayWord, furtherBits, furtherSays, withActive, cardBits, settledWords};
 ghost use Rattle.library.specs.CardWords.{furtherLen, cardLen};
-
-// A field of 18 bits: a history byte, the sequence number, the words of text.
-const FIELD: u64 = 262144;
-// What one more is worth in bits 53-36: the words of text, or the first of three bytes.
-const UPPER: u64 = 68719476736;
-// Bit 54: above it a further history word has only the mark of the last.
-const ABOVE_BYTES: u64 = 18014398509481984;
-// Bit 58, activity.
-const ACTIVE: u64 = 288230376151711744;
-// Bit 59, in the last word of a history.
-const LAST: u64 = 576460752303423488;
-// Directory numbers, bits 15-00 of a byte, end below this, which is its bit 16, activating.
-const ACTIVATING: u64 = 65536;
-// Bit 17 of a byte, yanked.
-const YANKED: u64 = 131072;
+use library::ABOVE_BYTES;
+use library::ACTIVATING;
+use library::ACTIVE;
+use library::FIELD;
+use library::LAST;
+use library::UPPER;
+use library::YANKED;
 
 // A byte with its yank bit as the flags have it: flag n is not 0 where the set n is yanked.
 fn fix_byte(f: &[u64], b: u64) -> u64

@@ -19,7 +19,7 @@ use crate::parts::parts_of;
 use crate::put::TWICE;
 use crate::put::put_merged;
 use library::Checked;
-use library_tables::DIRECTORY;
+use library::DIRECTORY;
 use merge_names::shared_name;
 
 // Whether the two together pass no limit.

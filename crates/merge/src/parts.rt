@@ -14,7 +14,7 @@ pub(crate) fn parts_of(image: &[u64]) -> Parts
 {
     let cards = library_image_decks::cards_place(image);
     Parts {
-        names: library_tables::DIRECTORY + library_tables::entries_of(image),
+        names: library::DIRECTORY + library_tables::entries_of(image),
         cards: cards,
         decks: library_image_decks::deck_end(image, cards),
     }

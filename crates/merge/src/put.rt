@@ -7,10 +7,9 @@ ghost use Rattle.library_raise.specs.Raised.{raisedWords};
 ghost use Rattle.merge.specs.Words.{Laid, headerOf, tablesOf, mergedCards, mergedWords, raisedPart};
 ghost use Rattle.words_lists.specs.Over.{putAt};
 use crate::parts::Parts;
-use library_tables::DIRECTORY;
+use library::COUNTS;
+use library::DIRECTORY;
 
-// of the header, the word of the counts
-const COUNTS: usize = 1;
 // What both have and the merged library has once: a header of two words, and YANK$$$ in the deck list.
 pub(crate) const TWICE: usize = 3;
 

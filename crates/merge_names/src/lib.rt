@@ -6,9 +6,9 @@ ghost use Rattle.words.specs.Base.{placeFrom};
 ghost use Rattle.library_index.specs.Names.{Knows};
 ghost use Rattle.library.specs.Library.{hasName};
 ghost use Rattle.merge_names.specs.Common.{sharedEntry, orNone};
+use library::DIRECTORY;
+use library::PURGED;
 use library_index::ALL_WAYS;
-use library_tables::DIRECTORY;
-use library_tables::PURGED;
 
 // The number of an entry's name in the first directory, by a tree of its names; 0 where it has none, and for a purged entry, which is no name.
 fn shared_entry(first: &[u64], ways: &[u16; ALL_WAYS], w: u64) -> usize

@@ -4,19 +4,12 @@ ghost use mathlib.Core.Bool.{true, false};
 ghost use Prim.Native.Nat.{_+_, _-_, _*_, _/_, _%_, _^_, _≤_, _<_};
 ghost use lib.ListN.{length, drop};
 ghost use Rattle.run.specs.CardHeads.{headLen, beyond, SeesAny, FullAny};
-
-// A field of 18 bits: a history byte, the sequence number, the words of text.
-pub(crate) const FIELD: u64 = 262144;
-// What one more is worth in bits 53-36: the words of text, or the first of three bytes.
-pub(crate) const UPPER: u64 = 68719476736;
-// Bit 58, activity.
-pub(crate) const ACTIVE: u64 = 288230376151711744;
-// Bit 59, in the last word of a history.
-pub(crate) const LAST: u64 = 576460752303423488;
-// Directory numbers, bits 15-00 of a byte, end below this, which is its bit 16, activating.
-pub(crate) const ACTIVATING: u64 = 65536;
-// The heads of a history of 64 bytes: the first word has one, the others three.
-const MOST_HEADS: usize = 22;
+use library::ACTIVATING;
+use library::ACTIVE;
+use library::FIELD;
+use library::LAST;
+use library::MOST_HEADS;
+use library::UPPER;
 
 // What is seen of a card: its owner and number, its activity bit, how many words of history it has, and of text.
 pub(crate) struct Seen {

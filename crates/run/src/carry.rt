@@ -6,7 +6,7 @@ ghost use Rattle.run.specs.Desk.{Sane};
 ghost use Rattle.run.specs.Written.{Finishes};
 use crate::desk::AHEAD;
 use crate::desk::Desk;
-use crate::desk::ROOM;
+use library::MOST_WORDS;
 use run_meaning::Ran;
 use run_meaning::Why;
 
@@ -20,7 +20,7 @@ pub(crate) fn finish(w: &[u64], dir: &[u64], names: &[u64], d: Desk, space: &mut
     let k = d.decks + 1;
     let lo = g.lo;
     let hi = g.hi;
-    let total = AHEAD + n + d.decks + lo + (ROOM - hi);
+    let total = AHEAD + n + d.decks + lo + (MOST_WORDS - hi);
     if library_store::write_library(&dir[..n], &names[..k], &w[..lo], &w[hi..], space) {
         return Ran::Done(total);
     }

@@ -3,6 +3,7 @@ ghost use mathlib.Core.Path.{_≡_};
 ghost use Prim.Native.Nat.{_≤_};
 ghost use Rattle.run.specs.Desk.{movedDesk, fitted};
 use crate::gap::Gap;
+use library::MOST_WORDS;
 use run_meaning::Why;
 
 // Where a text line goes.
@@ -36,9 +37,7 @@ pub(crate) enum Stepped {
     Refused(Why),
 }
 
-// The words of the array that cards stand in, and of a library's header with YANK$$$ in the deck list.
-pub(crate) const ROOM: usize = 65536;
-
+// The words of a library's header with YANK$$$ in the deck list.
 pub(crate) const AHEAD: usize = 3;
 
 // The state with the gap at another place of the decks, so many cards below it: text goes there.
@@ -68,7 +67,7 @@ pub(crate) fn limited(d: Desk) -> Stepped
     if g.hi < g.lo {
         return Stepped::Refused(Why::Limit);
     }
-    let words = AHEAD + d.entries + d.decks + g.lo + (ROOM - g.hi);
+    let words = AHEAD + d.entries + d.decks + g.lo + (MOST_WORDS - g.hi);
     if library::within_limits(d.entries, d.decks + 1, d.cards, words) {
         return Stepped::Went(d);
     }

@@ -6,16 +6,16 @@ ghost use lib.ListN.{length, take, drop};
 ghost use Rattle.run.specs.Desk.{Sane};
 ghost use Rattle.library.specs.Readable.{Readable};
 ghost use Rattle.run.specs.Loaded.{FlagsDecks, FindsTitle, Loads};
-use crate::card::FIELD;
 use crate::card::see;
 use crate::desk::Desk;
-use crate::desk::ROOM;
 use crate::desk::TextAt;
 use crate::fixes::is_title;
 use crate::gap::Gap;
 use crate::seek::Place;
 use crate::seek::find;
 use crate::starts::entry_of;
+use library::FIELD;
+use library::MOST_WORDS;
 
 // The numbers of the names after the first of k: YANK$$$ has none.
 fn flag_decks(dir: &[u64], n: usize, names: &[u64], k: usize, flags: &mut [u64])
@@ -87,7 +87,10 @@ pub(crate) fn load(
     let t = first_title(w, lo, decks);
     let c = find(w, 0, lo, 0, 0);
     Desk {
-        gap: Gap { lo: lo, hi: ROOM },
+        gap: Gap {
+            lo: lo,
+            hi: MOST_WORDS,
+        },
         low: c.index,
         entries: n,
         decks: k - 1,

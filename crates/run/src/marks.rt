@@ -4,16 +4,16 @@ ghost use lib.ListN.{length};
 ghost use Rattle.run.specs.GapWords.{Ordered};
 ghost use Rattle.run.specs.ByteMarks.{ByteAdded, Marks, Passes, MarksRange};
 ghost use Rattle.run.specs.Work.{KeepsOrder, MarksTo};
-use crate::card::ACTIVATING;
-use crate::card::FIELD;
-use crate::card::LAST;
-use crate::card::UPPER;
 use crate::card::is_full;
 use crate::card::see;
 use crate::card::with_active;
 use crate::gap::Gap;
 use crate::gap::lower;
 use crate::seek::find;
+use library::ACTIVATING;
+use library::FIELD;
+use library::LAST;
+use library::UPPER;
 
 // One byte more in the history whose last word is directly below `lo`: it takes a place in that word, or a word of its own.
 // Answers where the history ends, which is past `hi` where there is no room.

@@ -3,12 +3,12 @@ ghost use Prim.Native.Nat.{_≤_, _<_};
 ghost use lib.ListN.{length, take};
 ghost use Rattle.run.specs.GapWords.{Ordered};
 ghost use Rattle.run.specs.Work.{PutsCard};
-use crate::card::ACTIVATING;
-use crate::card::ACTIVE;
-use crate::card::FIELD;
-use crate::card::LAST;
-use crate::card::UPPER;
 use crate::gap::Gap;
+use library::ACTIVATING;
+use library::ACTIVE;
+use library::FIELD;
+use library::LAST;
+use library::UPPER;
 
 // A new card below the gap: the first k words of `text`, its number, and one byte, of the set or deck n.
 pub(crate) fn put_card(w: &mut [u64], g: Gap, text: &[u64], k: usize, seq: u64, n: u64) -> Gap

@@ -5,10 +5,10 @@ ghost use lib.ListN.{length};
 ghost use Rattle.run.specs.CardSeek.{namedAt, Finds};
 ghost use Rattle.run.specs.GapWords.{Ordered};
 ghost use Rattle.run.specs.Work.{Locates};
-use crate::card::ACTIVATING;
-use crate::card::FIELD;
 use crate::card::next_card;
 use crate::gap::Gap;
+use library::ACTIVATING;
+use library::FIELD;
 
 // Where a card stands: the word it begins at, and its index among the cards. The end and their count where it is not found.
 pub(crate) struct Place {
