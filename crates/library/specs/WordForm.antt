@@ -3,15 +3,15 @@
 --   further history words  okFull, okLast, okFurther
 --   a card's words         firstTests, wordTests
 --   the promise            FormByWord
---   it is met, none spare  twoWords, FormMet, formDiffers, overWord, endedTwice, isAt, FormSpare
+--   it is met, none spare  twoWords, FormMet, formDiffers, overWord, endedTwice, isPlace, FormSpare
 use Prim.Native.Nat.{ℕ, _+_, _-_, _*_, _/_, _%_, _^_, _<_}
 use mathlib.Core.Path.{_≡_}
-use mathlib.Core.Bool.{Bool, true, _&&_, not, Bool·beq}
+use mathlib.Core.Bool.{Bool, true, false, _&&_, not, Bool·beq}
 use mathlib.Core.List.{List, [], _∷_}
 use lib.Dec.{T, eqb, ltb, leb}
 use lib.ListN.{length, getD, take, drop}
-use mathlib.Core.Option.{some}
-use Rattle.words.specs.Base.{if_then_else_, any, all, allOf, isNil, isWord, placeFrom}
+use mathlib.Core.Option.{Option, none, some}
+use Rattle.words.specs.Base.{if_then_else_, all, allOf, isNil, isWord, placeFrom}
 use Rattle.library.specs.Check.{isLastWord, used, okByte, fieldsOf, okForm}
 
 -- a byte's number is not below n, and is that of an entry that is not purged
@@ -77,16 +77,16 @@ overWord = (2 ^ 60 + 2 ^ 59 + 2 ^ 58 + 2 ^ 18 + (2 ^ 16 + 1)) ∷ []
 abbrev pub endedTwice : List ℕ
 endedTwice = (2 ^ 59 + 2 ^ 58 + 2 ^ 18 + (2 ^ 16 + 1)) ∷ (2 ^ 59 + (2 ^ 16 + 1) * 2 ^ 36) ∷ []
 
--- the first word with bit 59 is the k-th
-abbrev pub isAt : List ℕ → ℕ → Bool
-isAt ws k = isLastWord (getD ws (k - 1) 0) && not (any isLastWord (take (k - 1) ws))
+abbrev pub isPlace : ℕ → Option ℕ → Bool
+isPlace k none = false
+isPlace k (some n) = eqb n k
 
 unfoldable pub FormSpare : Type 0
 FormSpare =
     T (allOf (
     not (all isWord overWord)
-    ∷ isAt overWord 1
+    ∷ isPlace 1 (placeFrom isLastWord 1 overWord)
     ∷ formDiffers overWord 1
     ∷ all isWord endedTwice
-    ∷ not (isAt endedTwice 2)
+    ∷ not (isPlace 2 (placeFrom isLastWord 1 endedTwice))
     ∷ formDiffers endedTwice 2 ∷ []))
