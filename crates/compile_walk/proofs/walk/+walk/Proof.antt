@@ -42,7 +42,6 @@ walk-Inv-loop image table from to depth writes out₀ lines calls at₀ l₀ n�
 abbrev walk-μ-loop : walk-lts.MeasureT-loop
 walk-μ-loop image table from to depth writes out₀ lines calls at₀ l₀ n₀ out at l n = length image - at
 
--- src/walk.rt:90:5
 walk-loop-holds : (t : ℕ) → walk-lts.Need-loop-holds (
   see-reads.Asked,
   see-reads.Learnt,
@@ -61,7 +60,6 @@ walk-loop-holds : (t : ℕ) → walk-lts.Need-loop-holds (
 ) (walk-at t) walk.Post walk-Inv-loop walk-μ-loop
 walk-loop-holds t c = (refl, refl)
 
--- src/walk.rt:92:13
 walk-same-length : (t : ℕ) → walk-lts.Need-same-length (
   see-reads.Asked,
   see-reads.Learnt,
@@ -80,7 +78,6 @@ walk-same-length : (t : ℕ) → walk-lts.Need-same-length (
 ) (walk-at t) walk.Post walk-Inv-loop walk-μ-loop
 walk-same-length t c = search needs
 
--- src/walk.rt:92:13
 walk-returns : (t : ℕ) → walk-lts.Need-returns (
   see-reads.Asked,
   see-reads.Learnt,
@@ -99,7 +96,6 @@ walk-returns : (t : ℕ) → walk-lts.Need-returns (
 ) (walk-at t) walk.Post walk-Inv-loop walk-μ-loop
 walk-returns t c = let l = c .before .before .loop in let a = c .before .before .before .before .before .before .args in sym (l .inv .1 ∙ run-past (a .writes) (tableView (a .image .now) (a .table .now)) (a .depth) (a .image .now) (l .at) (a .to) (l .l) (l .n) (l .out) (c .if1 .taken))
 
--- src/walk.rt:94:13
 walk-see-requires : (t : ℕ) → walk-lts.Need-see-requires (
   see-reads.Asked,
   see-reads.Learnt,
@@ -118,7 +114,6 @@ walk-see-requires : (t : ℕ) → walk-lts.Need-see-requires (
 ) (walk-at t) walk.Post walk-Inv-loop walk-μ-loop
 walk-see-requires t c κs = tt
 
--- src/walk.rt:97:20
 walk-star-at-requires : (t : ℕ) → walk-lts.Need-star-at-requires (
   see-reads.Asked,
   see-reads.Learnt,
@@ -137,7 +132,6 @@ walk-star-at-requires : (t : ℕ) → walk-lts.Need-star-at-requires (
 ) (walk-at t) walk.Post walk-Inv-loop walk-μ-loop
 walk-star-at-requires t c κs = tt
 
--- src/walk.rt:98:13
 walk-put-text-requires : (t : ℕ) → walk-lts.Need-put-text-requires (
   see-reads.Asked,
   see-reads.Learnt,
@@ -156,7 +150,6 @@ walk-put-text-requires : (t : ℕ) → walk-lts.Need-put-text-requires (
 ) (walk-at t) walk.Post walk-Inv-loop walk-μ-loop
 walk-put-text-requires t c κs = c .before .before .before .before .before .see .ensures .1 .0
 
--- src/walk.rt:101:17
 walk-line-of-requires : (t : ℕ) → walk-lts.Need-line-of-requires (
   see-reads.Asked,
   see-reads.Learnt,
@@ -175,7 +168,6 @@ walk-line-of-requires : (t : ℕ) → walk-lts.Need-line-of-requires (
 ) (walk-at t) walk.Post walk-Inv-loop walk-μ-loop
 walk-line-of-requires t c κs = tt
 
--- src/walk.rt:102:31
 walk-array-share-prefix-line : (t : ℕ) → walk-lts.Need-array-share-prefix-line (
   see-reads.Asked,
   see-reads.Learnt,
@@ -194,7 +186,6 @@ walk-array-share-prefix-line : (t : ℕ) → walk-lts.Need-array-share-prefix-li
 ) (walk-at t) walk.Post walk-Inv-loop walk-μ-loop
 walk-array-share-prefix-line t c = c .line-of .ensures .0
 
--- src/walk.rt:102:31
 walk-slice-aggregate-asks : (t : ℕ) → walk-lts.Need-slice-aggregate-asks (
   see-reads.Asked,
   see-reads.Learnt,
@@ -213,7 +204,6 @@ walk-slice-aggregate-asks : (t : ℕ) → walk-lts.Need-slice-aggregate-asks (
 ) (walk-at t) walk.Post walk-Inv-loop walk-μ-loop
 walk-slice-aggregate-asks t c = sym (length-take-le (c .before .line-of .result) (c .before .line-of .last .1 .1 .1 .0) (c .before .line-of .ensures .0))
 
--- src/walk.rt:102:19
 walk-asks-requires : (t : ℕ) → walk-lts.Need-asks-requires (
   see-reads.Asked,
   see-reads.Learnt,
@@ -232,7 +222,6 @@ walk-asks-requires : (t : ℕ) → walk-lts.Need-asks-requires (
 ) (walk-at t) walk.Post walk-Inv-loop walk-μ-loop
 walk-asks-requires t c κs = tt
 
--- src/walk.rt:103:43
 walk-enum-told : (t : ℕ) → walk-lts.Need-enum-told (
   see-reads.Asked,
   see-reads.Learnt,
@@ -251,7 +240,6 @@ walk-enum-told : (t : ℕ) → walk-lts.Need-enum-told (
 ) (walk-at t) walk.Post walk-Inv-loop walk-μ-loop
 walk-enum-told t c = search needs
 
--- src/walk.rt:103:43
 walk-array-share-prefix-line-2 : (t : ℕ) → walk-lts.Need-array-share-prefix-line-2 (
   see-reads.Asked,
   see-reads.Learnt,
@@ -270,7 +258,6 @@ walk-array-share-prefix-line-2 : (t : ℕ) → walk-lts.Need-array-share-prefix-
 ) (walk-at t) walk.Post walk-Inv-loop walk-μ-loop
 walk-array-share-prefix-line-2 t c = c .before .before .before .before .line-of .ensures .0
 
--- src/walk.rt:103:43
 walk-slice-aggregate-put : (t : ℕ) → walk-lts.Need-slice-aggregate-put (
   see-reads.Asked,
   see-reads.Learnt,
@@ -289,7 +276,6 @@ walk-slice-aggregate-put : (t : ℕ) → walk-lts.Need-slice-aggregate-put (
 ) (walk-at t) walk.Post walk-Inv-loop walk-μ-loop
 walk-slice-aggregate-put t c = let w = c .before .before .before .before .before .line-of in sym (length-take-le (w .result) (w .last .1 .1 .1 .0) (w .ensures .0))
 
--- src/walk.rt:103:32
 walk-put-requires : (t : ℕ) → walk-lts.Need-put-requires (
   see-reads.Asked,
   see-reads.Learnt,
@@ -308,7 +294,6 @@ walk-put-requires : (t : ℕ) → walk-lts.Need-put-requires (
 ) (walk-at t) walk.Post walk-Inv-loop walk-μ-loop
 walk-put-requires t c κs = c .before .before .before .before .before .before .before .before .before .before .before .before .see .ensures .1 .0
 
--- src/walk.rt:104:32
 walk-enum-known-k : (t : ℕ) → walk-lts.Need-enum-known-k (
   see-reads.Asked,
   see-reads.Learnt,
@@ -327,7 +312,6 @@ walk-enum-known-k : (t : ℕ) → walk-lts.Need-enum-known-k (
 ) (walk-at t) walk.Post walk-Inv-loop walk-μ-loop
 walk-enum-known-k t c = search needs
 
--- src/walk.rt:105:31
 walk-enum-known-f : (t : ℕ) → walk-lts.Need-enum-known-f (
   see-reads.Asked,
   see-reads.Learnt,
@@ -346,7 +330,6 @@ walk-enum-known-f : (t : ℕ) → walk-lts.Need-enum-known-f (
 ) (walk-at t) walk.Post walk-Inv-loop walk-μ-loop
 walk-enum-known-f t c = search needs
 
--- src/walk.rt:105:65
 walk-sub-walk : (t : ℕ) → walk-lts.Need-sub-walk (
   see-reads.Asked,
   see-reads.Learnt,
@@ -365,7 +348,6 @@ walk-sub-walk : (t : ℕ) → walk-lts.Need-sub-walk (
 ) (walk-at t) walk.Post walk-Inv-loop walk-μ-loop
 walk-sub-walk t c = let a = c .before .before .before .before .before .before .before .before .before .before .before .before .before .before .before .before .before .before .args in let z = opened-some (a .table .now) _ (a .depth) (c .before .before .before .before .before .before .before .before .before .before .before .before .before .before .loop .n) _ _ _ (c .before .before .before .asks .ensures) (c .before .f .given .1) in omega (arith, z .0)
 
--- src/walk.rt:105:92
 walk-add-walk : (t : ℕ) → walk-lts.Need-add-walk (
   see-reads.Asked,
   see-reads.Learnt,
@@ -384,7 +366,6 @@ walk-add-walk : (t : ℕ) → walk-lts.Need-add-walk (
 ) (walk-at t) walk.Post walk-Inv-loop walk-μ-loop
 walk-add-walk t c = let a = c .before .before .before .before .before .before .before .before .before .before .before .before .before .before .before .before .before .before .before .args in let z = opened-some (a .table .now) _ (a .depth) (c .before .before .before .before .before .before .before .before .before .before .before .before .before .before .before .loop .n) _ _ _ (c .before .before .before .before .asks .ensures) (c .before .before .f .given .1) in omega (arith, z .1)
 
--- src/walk.rt:105:40
 walk-walk-requires : (t : ℕ) → walk-lts.Need-walk-requires (
   see-reads.Asked,
   see-reads.Learnt,
@@ -427,7 +408,6 @@ met t c =
     (λ w. (ap (λ (o : List ℕ). length o) (w .14) ∙ w .11 .kept .1 .1 .1 .1 .1 .1 .0, same-state (w .15) (w .14) ∙ visit-opened (a .writes) (a .image .now) (a .table .now) (a .depth) s (l .l) (l .n) (l .out) (not-false _ (w .0 .left)) _ (line-taken (a .image .now) _ (w .4 .last .1 .1 .1 .0) (s .text) (s .next) (w .4 .result) (w .4 .ensures .1 .0) (w .4 .ensures .1 .1)) _ (w .6 .ensures) _ _ (w .8 .given .1) _ (w .11 .ensures))))))
     (c .if2 .came)
 
--- src/walk.rt:109:24
 walk-enum-known-r : (t : ℕ) → walk-lts.Need-enum-known-r (
   see-reads.Asked,
   see-reads.Learnt,
@@ -446,7 +426,6 @@ walk-enum-known-r : (t : ℕ) → walk-lts.Need-enum-known-r (
 ) (walk-at t) walk.Post walk-Inv-loop walk-μ-loop
 walk-enum-known-r t c = search needs
 
--- src/walk.rt:113:28
 walk-enum-known-r-2 : (t : ℕ) → walk-lts.Need-enum-known-r-2 (
   see-reads.Asked,
   see-reads.Learnt,
@@ -465,7 +444,6 @@ walk-enum-known-r-2 : (t : ℕ) → walk-lts.Need-enum-known-r-2 (
 ) (walk-at t) walk.Post walk-Inv-loop walk-μ-loop
 walk-enum-known-r-2 t c = search needs
 
--- src/walk.rt:113:40
 walk-same-length-2 : (t : ℕ) → walk-lts.Need-same-length-2 (
   see-reads.Asked,
   see-reads.Learnt,
@@ -484,7 +462,6 @@ walk-same-length-2 : (t : ℕ) → walk-lts.Need-same-length-2 (
 ) (walk-at t) walk.Post walk-Inv-loop walk-μ-loop
 walk-same-length-2 t c = let a = c .before .before .before .before .before .before .before .before .before .before .before .before .args in let l = c .before .before .before .before .before .before .before .before .loop in let s = c .before .before .before .before .before .see in let m = met t (c .before .before .before) in m .0 ∙ l .inv .0
 
--- src/walk.rt:113:40
 walk-returns-2 : (t : ℕ) → walk-lts.Need-returns-2 (
   see-reads.Asked,
   see-reads.Learnt,
@@ -503,7 +480,6 @@ walk-returns-2 : (t : ℕ) → walk-lts.Need-returns-2 (
 ) (walk-at t) walk.Post walk-Inv-loop walk-μ-loop
 walk-returns-2 t c = let a = c .before .before .before .before .before .before .before .before .before .before .before .before .args in let l = c .before .before .before .before .before .before .before .before .loop in let s = c .before .before .before .before .before .see in let m = met t (c .before .before .before) in sym (l .inv .1 ∙ run-halt (a .writes) (tableView (a .image .now) (a .table .now)) (a .depth) (a .image .now) (l .at) (a .to) (l .l) (l .n) (l .out) (c .before .before .before .before .before .before .before .loop-test .taken) (c .before .before .before .before .before .before .if1 .left) _ (s .ensures .1 .1) _ _ (m .1) _ _ _ (c .before .r2 .given .1))
 
--- src/walk.rt:90:5
 walk-loop-less : (t : ℕ) → walk-lts.Need-loop-less (
   see-reads.Asked,
   see-reads.Learnt,
@@ -522,7 +498,6 @@ walk-loop-less : (t : ℕ) → walk-lts.Need-loop-less (
 ) (walk-at t) walk.Post walk-Inv-loop walk-μ-loop
 walk-loop-less t c = let s = c .before .before .before .before .before .see .ensures .0 in omega (arith, s .0, s .1 .1 (c .before .before .before .before .before .before .before .loop-test .taken))
 
--- src/walk.rt:90:5
 walk-loop-again : (t : ℕ) → walk-lts.Need-loop-again (
   see-reads.Asked,
   see-reads.Learnt,
@@ -541,7 +516,6 @@ walk-loop-again : (t : ℕ) → walk-lts.Need-loop-again (
 ) (walk-at t) walk.Post walk-Inv-loop walk-μ-loop
 walk-loop-again t c = let a = c .before .before .before .before .before .before .before .before .before .before .before .before .args in let l = c .before .before .before .before .before .before .before .before .loop in let s = c .before .before .before .before .before .see in let m = met t (c .before .before .before) in (m .0 ∙ l .inv .0, l .inv .1 ∙ run-on (a .writes) (tableView (a .image .now) (a .table .now)) (a .depth) (a .image .now) (l .at) (a .to) (l .l) (l .n) (l .out) (c .before .before .before .before .before .before .before .loop-test .taken) (c .before .before .before .before .before .before .if1 .left) _ (s .ensures .1 .1) _ _ (m .1) _ _ (c .before .r .given .1))
 
--- src/walk.rt:74:1
 walk-same-length-3 : (t : ℕ) → walk-lts.Need-same-length-3 (
   see-reads.Asked,
   see-reads.Learnt,
@@ -560,7 +534,6 @@ walk-same-length-3 : (t : ℕ) → walk-lts.Need-same-length-3 (
 ) (walk-at t) walk.Post walk-Inv-loop walk-μ-loop
 walk-same-length-3 t c = search needs
 
--- src/walk.rt:74:1
 walk-returns-3 : (t : ℕ) → walk-lts.Need-returns-3 (
   see-reads.Asked,
   see-reads.Learnt,
