@@ -1,7 +1,7 @@
 // A case's line.
 use libc::STDOUT_FILENO;
 
-#[derive(Drop)]
+#[derive(Clone, Copy)]
 pub enum Answer {
     // The three numbers of the call, and the sum over its space.
     Numbers(u64, u64, u64, u64),

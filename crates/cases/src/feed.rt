@@ -13,7 +13,7 @@ pub const WORDS: usize = 131074;
 pub const BYTES: usize = 262400;
 
 // What was read and is not yet taken stands from `at` to `end` in the input array. `over`: more was asked for than the input had.
-#[derive(Drop)]
+#[derive(Clone, Copy)]
 pub struct Feed {
     pub at: usize,
     pub end: usize,

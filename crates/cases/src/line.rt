@@ -11,7 +11,7 @@ const YANK: u64 = 9;
 const NAMES: usize = 64;
 
 // A line's kind, and its first so many of four words.
-#[derive(Drop)]
+#[derive(Clone, Copy)]
 struct Asked {
     kind: u64,
     count: usize,

@@ -1,4 +1,5 @@
 // The compile file of an image: the check first, then the walk (RULES, "The compile file").
+#![tactic(auto)]
 ghost use Rattle.std.specs.Prelude.{◌≡◌, length};
 ghost use Rattle.compile_walk.specs.TableView.{table_view};
 ghost use Rattle.compile.specs.Compile.{compiling, compiled, compile_into, stop_number, compiled_number, compiled_first, compiled_second};
@@ -22,7 +23,7 @@ const MANY: u64 = 43;
 const SPACE: u64 = 44;
 
 // What a compile answers: how many lines and calls; the library's fault and its place; or the row and the card.
-#[derive(Drop)]
+#[derive(Clone, Copy)]
 pub enum Compiled {
     Done(usize, usize),
     Library(Fault, usize),

@@ -10,7 +10,7 @@ use words_lines::Call;
 const MOST_CALLS: usize = 4096;
 
 // Where a called deck's cards stand.
-#[derive(Drop)]
+#[derive(Clone, Copy)]
 pub(crate) enum Place {
     Missing,
     // YANK$$$, or a normal deck
@@ -19,7 +19,7 @@ pub(crate) enum Place {
 }
 
 // What a line asks for: to be written, a refusal, or the cards of a common deck.
-#[derive(Drop)]
+#[derive(Clone, Copy)]
 pub(crate) enum Asked {
     Text,
     Stopped(Stop),

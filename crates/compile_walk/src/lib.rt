@@ -1,4 +1,5 @@
 // The walk over decks and calls (RULES, "The compile file"; rows 40 to 44).
+#![tactic(auto)]
 mod calls;
 mod line;
 mod walk;
@@ -6,7 +7,7 @@ mod walk;
 pub use walk::walk_decks;
 
 // Why a compile file is refused: rows 40 to 44 of the table.
-#[derive(Drop)]
+#[derive(Clone, Copy)]
 pub enum Stop {
     // a CALL that is malformed, or of no deck
     NoDeck,
@@ -21,7 +22,7 @@ pub enum Stop {
 }
 
 // What a walk answers: how many lines and calls there were so far, or the row and the card.
-#[derive(Drop)]
+#[derive(Clone, Copy)]
 pub enum Walked {
     On(usize, usize),
     Halted(Stop, u64, u64),

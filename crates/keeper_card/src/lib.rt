@@ -1,4 +1,5 @@
 // What the keeper of libraries is told: the name of a card, and the answers of what is shown.
+#![tactic(auto)]
 ghost use Rattle.std.specs.Prelude.{◌≡◌};
 ghost use Rattle.keeper_card.specs.Naming.{told_number, told_value};
 
@@ -15,7 +16,7 @@ const DONE: u64 = 0;
 const NO_FIT: u64 = 53;
 
 // What showing answers: the count of entries or of bytes; the library's fault and its place; or that the result does not fit the space.
-#[derive(Drop)]
+#[derive(Clone, Copy)]
 pub enum Told {
     Done(usize),
     Library(Fault, usize),

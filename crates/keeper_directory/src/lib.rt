@@ -1,4 +1,5 @@
 // What the keeper of libraries is shown: a directory.
+#![tactic(auto)]
 mod entry_rows;
 mod kinds;
 

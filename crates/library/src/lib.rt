@@ -1,4 +1,5 @@
 // Libraries: what they are, how they are written in words, when an image is one, and what the check of an image answers.
+#![tactic(auto)]
 ghost use Rattle.std.specs.Prelude.{◌≡◌};
 ghost use Rattle.library.specs.Check.{fault_number, checked_number, checked_place};
 
@@ -16,7 +17,7 @@ pub use layout::{
 pub use limits::within_limits;
 
 // Why an image is no library: rows 1 to 10 of the table.
-#[derive(Drop)]
+#[derive(Clone, Copy)]
 pub enum Fault {
     // too few words or too many, or a number that is no word
     Size,
@@ -41,21 +42,21 @@ pub enum Fault {
 }
 
 // What the check answers: the fault and the word where it stands.
-#[derive(Drop)]
+#[derive(Clone, Copy)]
 pub enum Checked {
     Sound,
     Refused(Fault, usize),
 }
 
 // What is looked for in words: where it stands, or that it does not.
-#[derive(Drop)]
+#[derive(Clone, Copy)]
 pub enum Found {
     At(usize),
     Nothing,
 }
 
 // What is seen of a card: where its text starts and ends, its owner and number, whether its bit says active.
-#[derive(Drop)]
+#[derive(Clone, Copy)]
 pub struct Seen {
     pub text: usize,
     pub next: usize,
@@ -65,7 +66,7 @@ pub struct Seen {
 }
 
 // A line as a deck card's: none, one of wrong form, or that of a normal or common deck of this name.
-#[derive(Drop)]
+#[derive(Clone, Copy)]
 pub enum DeckLine {
     NotDeck,
     BadDeck,

@@ -1,4 +1,5 @@
 // The library that a creation run starts from, and the table's numbers of what writing it answers.
+#![tactic(auto)]
 ghost use Rattle.std.specs.Prelude.{◌≡◌};
 ghost use Rattle.library_fresh.specs.Fresh.{begun_number, begun_value};
 
@@ -12,7 +13,7 @@ const DONE: u64 = 0;
 const LONGER: u64 = 32;
 
 // What writing the fresh library answers: the words written, or that it is longer than the space.
-#[derive(Drop)]
+#[derive(Clone, Copy)]
 pub enum Begun {
     Done(usize),
     Space,

@@ -1,4 +1,5 @@
 // The decks of an image as it stands, whatever its words: deck cards, and a table of the decks made once (RULES, "Decks").
+#![tactic(auto)]
 mod deck_lines;
 mod table;
 mod titles;

@@ -10,7 +10,7 @@ use library::{DeckLine, Seen};
 use library_image::COLUMNS;
 
 // A line as a deck card's: none, or that of a normal or common deck of this name.
-#[derive(Drop)]
+#[derive(Clone, Copy)]
 pub(crate) enum Title {
     Not,
     Deck(u64),

@@ -1,4 +1,5 @@
 // The numbers of a directory's names: by a walk of its entries, or by a tree of its names.
+#![tactic(auto)]
 mod names;
 mod search;
 

@@ -22,7 +22,7 @@ const QUOTIENT: u64 = 1024;
 const QUOTIENTS: u64 = 0o400000000000000000;
 
 // Where a name's ways end: at the entry of this number, or with one that leads to none.
-#[derive(Drop)]
+#[derive(Clone, Copy)]
 pub(crate) enum Walked {
     Stands(usize),
     Ends(usize),

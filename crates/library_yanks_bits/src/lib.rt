@@ -1,4 +1,5 @@
 // Yank and activity bits settled for flags (RULES, "When a card is active").
+#![tactic(auto)]
 ghost use Rattle.std.specs.Prelude.{◌≡◌, ◌++◌, ◌+◌, ◌≤◌, ◌<◌, length, take, drop};
 ghost use Rattle.library_yanks_bits.specs.SettledBits.{flagged, fix_byte, fix_word, say_byte, say_word, further_bits, further_says, with_active, card_bits, settled_words};
 ghost use Rattle.library.specs.CardWords.{further_len, card_len};
@@ -52,7 +53,7 @@ fn say_word(so: u64, y: u64) -> u64
 }
 
 // Where a history ends, and what its bytes say.
-#[derive(Drop)]
+#[derive(Clone, Copy)]
 struct Told {
     at: usize,
     so: u64,

@@ -3,7 +3,7 @@ ghost use Rattle.std.specs.Prelude.{◌≡◌};
 ghost use Rattle.merge.specs.Words.{places_of};
 
 // The places of the deck list, of the cards, and of the first deck card: the cards of YANK$$$ are ahead of it.
-#[derive(Drop)]
+#[derive(Clone, Copy)]
 pub(crate) struct Parts {
     pub(crate) names: usize,
     pub(crate) cards: usize,

@@ -1,4 +1,5 @@
 // The merge of two libraries, without its code: what it answers, and the numbers of that (RULES, "The merge").
+#![tactic(auto)]
 ghost use Rattle.std.specs.Prelude.{◌≡◌};
 ghost use Rattle.merge_meaning.specs.Merge.{merged_number, merged_value, merged_which};
 
@@ -6,7 +7,7 @@ use library::Fault;
 
 // What a merge answers: how many words were written; the first library's fault and its place, or the second's; the word of the second at which a name stands that both
 // have; that a limit would be passed; or that the space is too short.
-#[derive(Drop)]
+#[derive(Clone, Copy)]
 pub enum Merged {
     Done(usize),
     First(Fault, usize),

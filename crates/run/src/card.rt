@@ -5,7 +5,7 @@ ghost use Rattle.run.specs.CardHeads.{head_len, beyond, SeesAny, FullAny};
 use library::{ACTIVATING, ACTIVE, FIELD, LAST, MOST_HEADS, UPPER};
 
 // What is seen of a card: its owner and number, its activity bit, how many words of history it has, and of text.
-#[derive(Drop)]
+#[derive(Clone, Copy)]
 pub(crate) struct Seen {
     pub(crate) owner: u64,
     pub(crate) seq: u64,

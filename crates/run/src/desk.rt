@@ -7,7 +7,7 @@ use library::MOST_WORDS;
 use run_meaning::Why;
 
 // Where a text line goes.
-#[derive(Drop)]
+#[derive(Clone, Copy)]
 pub(crate) enum TextAt {
     Nowhere,
     // in YANK$$$, where no text may go
@@ -16,7 +16,7 @@ pub(crate) enum TextAt {
     Gap,
 }
 
-#[derive(Drop)]
+#[derive(Clone, Copy)]
 pub(crate) struct Desk {
     pub(crate) gap: Gap,
     // the cards below it
@@ -34,7 +34,7 @@ pub(crate) struct Desk {
     pub(crate) place: TextAt,
 }
 
-#[derive(Drop)]
+#[derive(Clone, Copy)]
 pub(crate) enum Stepped {
     Went(Desk),
     Refused(Why),

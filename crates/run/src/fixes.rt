@@ -11,7 +11,7 @@ use run_meaning::Why;
 use words_lines::CardName;
 
 // A card as it was sought: its owner's number, the word it begins at, and its index in the stream; the count of cards where there is none.
-#[derive(Drop)]
+#[derive(Clone, Copy)]
 pub(crate) struct Sought {
     pub(crate) own: u64,
     pub(crate) at: usize,

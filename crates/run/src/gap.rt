@@ -6,7 +6,7 @@ ghost use Rattle.run.specs.Work.{OpensAfter, OpensAhead, OpensAt};
 use crate::card::see;
 
 // The words of cards stand below `lo`, and from `hi` to the array's end. `hi` below `lo` says that there is no room.
-#[derive(Drop)]
+#[derive(Clone, Copy)]
 pub(crate) struct Gap {
     pub(crate) lo: usize,
     pub(crate) hi: usize,

@@ -1,4 +1,5 @@
 // The correction run: units, corrections, and the stream as a whole.
+#![tactic(auto)]
 mod card;
 mod carry;
 mod desk;

@@ -114,7 +114,7 @@ fn mark_range(w: &mut [u64], g: Gap, stop: usize, was: u64, n: u64) -> Gap
 }
 
 // What marking a range answers: the gap, now directly after the range, or why not (28, 31).
-#[derive(Drop)]
+#[derive(Clone, Copy)]
 pub(crate) enum Marked {
     Done(Gap),
     NoCard,

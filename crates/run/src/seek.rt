@@ -9,7 +9,7 @@ use crate::gap::Gap;
 use library::{ACTIVATING, FIELD};
 
 // Where a card stands: the word it begins at, and its index among the cards. The end and their count where it is not found.
-#[derive(Drop)]
+#[derive(Clone, Copy)]
 pub(crate) struct Place {
     pub(crate) at: usize,
     pub(crate) index: usize,

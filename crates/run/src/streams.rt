@@ -8,7 +8,7 @@ use crate::obey::obey_line;
 use run_meaning::Why;
 
 // All lines obeyed; or why one is refused, and its number.
-#[derive(Drop)]
+#[derive(Clone, Copy)]
 pub(crate) enum Ended {
     Ended(Desk),
     Stopped(Why, usize),

@@ -1,4 +1,5 @@
 // The corrections of a library, without their code: what a run answers and the table's numbers of it, the next line, and the next card's number.
+#![tactic(auto)]
 ghost use Rattle.std.specs.Prelude.{◌≡◌, length};
 ghost use Rattle.words_lines.specs.FirstLine.{line_after};
 ghost use Rattle.run_meaning.specs.Numbering.{number_after};
@@ -7,7 +8,7 @@ ghost use Rattle.run_meaning.specs.Run.{why_number, ran_number, ran_value};
 use library::Fault;
 
 // Why a stream is refused: rows 19 to 32 of the table.
-#[derive(Drop)]
+#[derive(Clone, Copy)]
 pub enum Why {
     // the stream is over 262,144 bytes
     Stream,
@@ -40,7 +41,7 @@ pub enum Why {
 }
 
 // What a run answers: how many words were written, or the row and the place.
-#[derive(Drop)]
+#[derive(Clone, Copy)]
 pub enum Ran {
     Done(usize),
     Library(Fault, usize),

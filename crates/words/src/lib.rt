@@ -1,4 +1,5 @@
 // Words of 60 bits: the display code and columns.
+#![tactic(auto)]
 mod codes;
 mod columns;
 mod display;

@@ -1,4 +1,5 @@
 // Lines and their parts: from bytes to a directive's name and parameters.
+#![tactic(auto)]
 mod calls;
 mod kinds;
 mod parts;
@@ -12,7 +13,7 @@ pub use scan::{part_after, part_at};
 pub use stream::line_at;
 
 // What a directive's name asks for.
-#[derive(Drop)]
+#[derive(Clone, Copy)]
 pub enum Kind {
     Text,
     Skipped,
@@ -28,14 +29,14 @@ pub enum Kind {
 }
 
 // A card as a directive names it: its owner's name as a directory word, and its number.
-#[derive(Drop)]
+#[derive(Clone, Copy)]
 pub struct CardName {
     pub name: u64,
     pub seq: u64,
 }
 
 // What a line of a stream, or of a card, says.
-#[derive(Drop)]
+#[derive(Clone, Copy)]
 pub enum Line {
     Text,
     Skipped,
@@ -58,7 +59,7 @@ pub enum Line {
 }
 
 // What a card says when the compile file is written.
-#[derive(Drop)]
+#[derive(Clone, Copy)]
 pub enum Call {
     Not,
     Of(u64),
@@ -66,14 +67,14 @@ pub enum Call {
 }
 
 // What stands at a place of a field of names: a name's word, 0 where it is no name, and the next place; or no more.
-#[derive(Drop)]
+#[derive(Clone, Copy)]
 pub enum NameStep {
     Name { word: u64, next: usize },
     End,
 }
 
 // What a search stops at.
-#[derive(Drop)]
+#[derive(Clone, Copy)]
 pub enum Stop {
     // a line's end
     Line,

@@ -1,4 +1,5 @@
 // Directives: from a line to what it asks.
+#![tactic(auto)]
 mod asks;
 mod names;
 

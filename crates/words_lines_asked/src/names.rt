@@ -9,7 +9,7 @@ ghost use Rattle.words_lines_asked.specs.Parameters.{not_empty, name_read, card_
 use words_lines::{CardName, NameStep, Stop, part_after, part_at};
 
 // What a field that is to hold one name holds.
-#[derive(Drop)]
+#[derive(Clone, Copy)]
 pub(crate) enum NameField {
     One(u64),
     // a name, and more parameters
@@ -18,7 +18,7 @@ pub(crate) enum NameField {
 }
 
 // What a field that is to hold one card or two holds.
-#[derive(Drop)]
+#[derive(Clone, Copy)]
 pub(crate) enum Range {
     Of(CardName, CardName),
     No,

@@ -1,4 +1,5 @@
 // Names as words and back, numbers read and written.
+#![tactic(auto)]
 mod columns;
 mod names;
 

@@ -1,4 +1,5 @@
 // Compressed text: words to a line.
+#![tactic(auto)]
 mod columns;
 mod expanding;
 mod say;
@@ -6,7 +7,7 @@ mod say;
 pub use expanding::{expand, expanded_number};
 
 // What expanding text answers: how many columns were written, or that the words are no text.
-#[derive(Drop)]
+#[derive(Clone, Copy)]
 pub enum Expanded {
     Columns(usize),
     NoText,

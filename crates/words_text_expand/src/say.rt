@@ -16,7 +16,7 @@ const SECOND: u8 = 1;
 const PAST: u8 = 2;
 
 // Where the next column is put, and what is ahead of the next code.
-#[derive(Drop)]
+#[derive(Clone, Copy)]
 struct Said {
     at: usize,
     ahead: u8,

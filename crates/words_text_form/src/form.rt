@@ -138,7 +138,7 @@ fn columns_in(state: usize, c: usize) -> usize
 }
 
 // What may follow, and the columns so far.
-#[derive(Drop)]
+#[derive(Clone, Copy)]
 struct Walk {
     state: usize,
     columns: usize,
