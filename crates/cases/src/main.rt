@@ -5,6 +5,7 @@
 // An answer is four decimals with one blank between: three of the call, and a sum over the whole space that was lent to it. A case that the program
 // does not answer has a line that says why in the answer's place.
 #![tactic(auto)]
+
 mod answer;
 mod feed;
 mod line;

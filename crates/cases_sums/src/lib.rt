@@ -1,5 +1,6 @@
 // What the test program computes by itself: the numbers of a case, and the space that it lends to a call, filled before it and summed after it (tests/CASES.md).
 #![tactic(auto)]
+
 mod numbers;
 mod space;
 

@@ -1,5 +1,6 @@
 // The compile file of an image: the check first, then the walk (RULES, "The compile file").
 #![tactic(auto)]
+
 ghost use Rattle.std.specs.Prelude.{◌≡◌, length};
 ghost use Rattle.compile_walk.specs.TableView.{table_view};
 ghost use Rattle.compile.specs.Compile.{compiling, compiled, compile_into, stop_number, compiled_number, compiled_first, compiled_second};

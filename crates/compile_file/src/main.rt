@@ -1,5 +1,6 @@
 // The compile program (RULES, "The compile program"): a packed library on standard input; on standard output its compile file, or the line of its refusal.
 #![tactic(auto)]
+
 ghost use Rattle.std.specs.Prelude.{◌≡◌, ◌++◌, length, drop};
 ghost use Rattle.compile_file.specs.Written.{Wrote};
 ghost use Rattle.words_packing.specs.Pack.{unpacking, unpacked};

@@ -1,5 +1,6 @@
 // The walk over decks and calls (RULES, "The compile file"; rows 40 to 44).
 #![tactic(auto)]
+
 mod calls;
 mod line;
 mod walk;

@@ -1,5 +1,6 @@
 // What C calls. Each function answers the table's number and sets its values through references, in both cases.
 #![tactic(auto)]
+
 ghost use Rattle.std.specs.Prelude.{◌≡◌, length};
 ghost use Rattle.keeper_card.specs.Naming.{naming, told, show_into, told_number, told_value};
 ghost use Rattle.library_fresh.specs.Fresh.{freshing, fresh_into, begun_number, begun_value};

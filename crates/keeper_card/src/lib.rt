@@ -1,5 +1,6 @@
 // What the keeper of libraries is told: the name of a card, and the answers of what is shown.
 #![tactic(auto)]
+
 ghost use Rattle.std.specs.Prelude.{◌≡◌};
 ghost use Rattle.keeper_card.specs.Naming.{told_number, told_value};
 

@@ -1,5 +1,6 @@
 // What the keeper of libraries is shown: a directory.
 #![tactic(auto)]
+
 mod entry_rows;
 mod kinds;
 

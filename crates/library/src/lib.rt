@@ -1,5 +1,6 @@
 // Libraries: what they are, how they are written in words, when an image is one, and what the check of an image answers.
 #![tactic(auto)]
+
 ghost use Rattle.std.specs.Prelude.{◌≡◌};
 ghost use Rattle.library.specs.Check.{fault_number, checked_number, checked_place};
 

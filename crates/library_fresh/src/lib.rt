@@ -1,5 +1,6 @@
 // The library that a creation run starts from, and the table's numbers of what writing it answers.
 #![tactic(auto)]
+
 ghost use Rattle.std.specs.Prelude.{◌≡◌};
 ghost use Rattle.library_fresh.specs.Fresh.{begun_number, begun_value};
 

@@ -1,5 +1,6 @@
 // The decks of an image as it stands, whatever its words: deck cards, and a table of the decks made once (RULES, "Decks").
 #![tactic(auto)]
+
 mod deck_lines;
 mod table;
 mod titles;

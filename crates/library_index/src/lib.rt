@@ -1,5 +1,6 @@
 // The numbers of a directory's names: by a walk of its entries, or by a tree of its names.
 #![tactic(auto)]
+
 mod names;
 mod search;
 

@@ -1,5 +1,6 @@
 // Keys in a list, and the first that stands twice.
 #![tactic(auto)]
+
 mod slots;
 mod tree;
 mod twice;

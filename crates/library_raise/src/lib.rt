@@ -1,5 +1,6 @@
 // Directory numbers raised in the history bytes of cards (RULES, "The merge").
 #![tactic(auto)]
+
 ghost use Rattle.std.specs.Prelude.{◌≡◌, ◌++◌, ◌+◌, ◌≤◌, ◌<◌, length, take, drop};
 ghost use Rattle.library.specs.CardWords.{further_len, card_len};
 ghost use Rattle.library_raise.specs.Raised.{byte_raised, word_raised, further_raised, card_raised, raised_words};

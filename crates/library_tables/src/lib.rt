@@ -1,5 +1,6 @@
 // Rows 1 to 4 of the library check: the words' size, the header, the counts and the names of the tables.
 #![tactic(auto)]
+
 mod first;
 mod tables;
 

@@ -1,5 +1,6 @@
 // The yanked sets of an image, whatever its words: their flags, the cards that are active under them.
 #![tactic(auto)]
+
 mod flags;
 mod force;
 mod marks;

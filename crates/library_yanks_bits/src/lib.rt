@@ -1,5 +1,6 @@
 // Yank and activity bits settled for flags (RULES, "When a card is active").
 #![tactic(auto)]
+
 ghost use Rattle.std.specs.Prelude.{◌≡◌, ◌++◌, ◌+◌, ◌≤◌, ◌<◌, length, take, drop};
 ghost use Rattle.library_yanks_bits.specs.SettledBits.{flagged, fix_byte, fix_word, say_byte, say_word, further_bits, further_says, with_active, card_bits, settled_words};
 ghost use Rattle.library.specs.CardWords.{further_len, card_len};

@@ -1,6 +1,7 @@
 // Two libraries made one: each part of the second follows that part of the first, and the numbers in its history bytes rise by the first's directory count (RULES, "The merge"). Both are
 // checked; then a name that both have, the limits and the room are looked at; then the words are put, and the second's numbers raised where they stand.
 #![tactic(auto)]
+
 mod counted;
 mod parts;
 mod put;

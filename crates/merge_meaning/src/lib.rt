@@ -1,5 +1,6 @@
 // The merge of two libraries, without its code: what it answers, and the numbers of that (RULES, "The merge").
 #![tactic(auto)]
+
 ghost use Rattle.std.specs.Prelude.{◌≡◌};
 ghost use Rattle.merge_meaning.specs.Merge.{merged_number, merged_value, merged_which};
 

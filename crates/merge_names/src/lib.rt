@@ -1,5 +1,6 @@
 // A name that both directories of a merge have (row 37).
 #![tactic(auto)]
+
 ghost use Rattle.std.specs.Prelude.{◌≡◌, ◌≤◌, length};
 ghost use Rattle.words.specs.Base.{place_from};
 ghost use Rattle.library_index.specs.Names.{Knows};

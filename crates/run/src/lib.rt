@@ -1,5 +1,6 @@
 // The correction run: units, corrections, and the stream as a whole.
 #![tactic(auto)]
+
 mod card;
 mod carry;
 mod desk;

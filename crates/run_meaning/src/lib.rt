@@ -1,5 +1,6 @@
 // The corrections of a library, without their code: what a run answers and the table's numbers of it, the next line, and the next card's number.
 #![tactic(auto)]
+
 ghost use Rattle.std.specs.Prelude.{◌≡◌, length};
 ghost use Rattle.words_lines.specs.FirstLine.{line_after};
 ghost use Rattle.run_meaning.specs.Numbering.{number_after};

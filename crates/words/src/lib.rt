@@ -1,5 +1,6 @@
 // Words of 60 bits: the display code and columns.
 #![tactic(auto)]
+
 mod codes;
 mod columns;
 mod display;

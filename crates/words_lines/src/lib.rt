@@ -1,5 +1,6 @@
 // Lines and their parts: from bytes to a directive's name and parameters.
 #![tactic(auto)]
+
 mod calls;
 mod kinds;
 mod parts;

@@ -1,5 +1,6 @@
 // Directives: from a line to what it asks.
 #![tactic(auto)]
+
 mod asks;
 mod names;
 

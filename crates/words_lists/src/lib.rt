@@ -1,5 +1,6 @@
 // Lists of words and of bytes: searched, cleared, put over others.
 #![tactic(auto)]
+
 mod lists;
 
 pub use lists::{clear, put_bytes, put_words, stands};

@@ -1,5 +1,6 @@
 // Names as words and back, numbers read and written.
 #![tactic(auto)]
+
 mod columns;
 mod names;
 

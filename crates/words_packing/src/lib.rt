@@ -1,5 +1,6 @@
 // Words of 60 bits packed to bytes, and packed bytes back to words.
 #![tactic(auto)]
+
 mod eights;
 mod packer;
 mod unpacker;

@@ -1,5 +1,6 @@
 // Compressed text: a line to words.
 #![tactic(auto)]
+
 mod codes;
 mod compressing;
 mod line;

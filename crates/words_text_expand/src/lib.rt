@@ -1,5 +1,6 @@
 // Compressed text: words to a line.
 #![tactic(auto)]
+
 mod columns;
 mod expanding;
 mod say;

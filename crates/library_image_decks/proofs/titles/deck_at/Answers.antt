@@ -1,0 +1,24 @@
+-- The line is what the words say, and one that begins with no star is no deck card's.
+use mathlib.Core.Path.{sym, ap, ◌∙◌}
+use mathlib.Core.List.{List}
+use Prim.Native.Nat.{ℕ}
+use lib.Seq.{length-take-le}
+use Rattle.library.specs.Library.{deck_line}
+use Rattle.library.specs.Asked.{deck_line_of}
+use Rattle.library_image.proofs.CardPlaces.{line_taken}
+use Rattle.library_image_decks.proofs.DeckTitles.{deck-starless}
+use borrow.Author.Tests.{not-true}
+use borrow.Author.Rules.{rules}
+use Rattle.library_image_decks.proofs.titles.deck_at.Goals as goal
+
+pub returns-then-not-star_at : goal.returns-then-not-star_at
+returns-then-not-star_at c = let a = c.args in deck-starless a.image.now a.from a.to (sym c.star_at.ensures ∙ not-true _ c.if-not-star_at.true)
+
+pub slice_bounds-line-end : goal.slice_bounds-line-end
+slice_bounds-line-end c = c.type_inv.line.ensures.0
+
+pub slice_bounds-deck_line-end : goal.slice_bounds-deck_line-end
+slice_bounds-deck_line-end c = sym (length-take-le c.type_inv.line.result c.type_inv.line.new.1.1.1.0 c.type_inv.line.ensures.0)
+
+pub returns : goal.returns
+returns c = let e = c.type_inv.line.ensures in c.deck_line.ensures ∙ ap (λ (l : List ℕ). deck_line_of (deck_line l)) (line_taken _ _ _ _ _ _ e.1.0 e.1.1)

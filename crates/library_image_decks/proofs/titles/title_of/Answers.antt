@@ -1,0 +1,23 @@
+-- Only a well-formed DECK or COMDECK line is a title.
+use Rattle.library_image.specs.Places.{line_in}
+use Rattle.library_image_decks.specs.Decks.{title_in}
+use Rattle.library_image_decks.proofs.DeckTitles.{title-line}
+use Rattle.library.specs.Library.{deck_line}
+use borrow.Author.Rules.{rules}
+use Rattle.library_image_decks.proofs.titles.title_of.Goals as goal
+
+pub returns-in-NotDeck : goal.returns-in-NotDeck
+unfolding title_in
+returns-in-NotDeck c = let a = c.args in title-line (deck_line (line_in a.image.now a.c.text a.c.next)) _ _ c.deck_at.ensures c.in-NotDeck.is
+
+pub returns-in-BadDeck : goal.returns-in-BadDeck
+unfolding title_in
+returns-in-BadDeck c = let a = c.args in title-line (deck_line (line_in a.image.now a.c.text a.c.next)) _ _ c.deck_at.ensures c.in-BadDeck.is
+
+pub returns-in-Deck : goal.returns-in-Deck
+unfolding title_in
+returns-in-Deck c = let a = c.args in title-line (deck_line (line_in a.image.now a.c.text a.c.next)) _ _ c.deck_at.ensures c.in-Deck.is
+
+pub returns-in-Common : goal.returns-in-Common
+unfolding title_in
+returns-in-Common c = let a = c.args in title-line (deck_line (line_in a.image.now a.c.text a.c.next)) _ _ c.deck_at.ensures c.in-Common.is

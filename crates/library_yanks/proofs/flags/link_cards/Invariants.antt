@@ -1,0 +1,14 @@
+-- The cards passed are linked by their owners.
+use mathlib.Core.Path.{◌≡◌, refl, ◌∙◌}
+use Prim.Native.Nat.{◌-◌}
+use native.Mathlib.Omega.{arith}
+use lib.ListN.{length}
+use Rattle.library_yanks.proofs.Chaining.{Linking, link_start, link-more, link-end}
+use borrow.Author.Rules.{rules}
+use Rattle.library_yanks.proofs.flags.link_cards.Given as goal
+
+abbrev pub invariant-loop-at : goal.invariant-loop-at
+invariant-loop-at l = Linking l.cards l.initial.first l.first l.link l.at × (length l.link ≡ length l.initial.link)
+
+abbrev pub decreases-loop-at : goal.decreases-loop-at
+decreases-loop-at l = length l.cards - l.at

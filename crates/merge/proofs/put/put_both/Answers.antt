@@ -1,0 +1,15 @@
+-- The second list is put where the first ends.
+use mathlib.Core.Path.{ap, ◌∙◌}
+use Prim.Native.Nat.{◌+◌}
+use lib.ListN.{length}
+use Rattle.words_lists.specs.Over.{over}
+use Rattle.words_lists.proofs.OverLists.{over-then}
+use borrow.Author.Rules.{rules}
+use Rattle.merge.proofs.put.put_both.Goals as goal
+
+pub returns : goal.returns
+returns c =
+    let a = c.args in
+    c.put_words-2.ensures
+    ∙ ap (over (a.at + length a.first.now) a.second.now) c.put_words.ensures
+    ∙ over-then a.at a.first.now a.second.now a.space.now c.requires

@@ -1,0 +1,49 @@
+-- YANK$$$ is brought below the gap; past a limit nothing more is done, and else the bits are settled again.
+use mathlib.Core.Path.{◌≡◌, sym, ◌∙◌}
+use lib.ListN.{length}
+use borrow.Author.Rules.{rules}
+use Rattle.run.proofs.YankMarking.{yank-lead, yank-sane, yank-went, yank-refused}
+use Rattle.run.proofs.ranges.yank_marked.Goals as goal
+
+pub resettle-requires : goal.resettle-requires
+resettle-requires c =
+    let a = c.args in
+    let pre = c.requires in
+    let o = c.open_at-m in
+    let q = sym c.limited-r.ensures ∙ c.in-Went.is in
+    let same : length o.last.0 ≡ length a.w.now = c.open_at-m.kept.w in
+    let e = c.in-Went.e in
+    (yank-sane a.w.now o.last.0 a.d o.result e pre.0 same o.ensures.ordered q, (yank-lead a.d o.result e q, (pre.1.1.0, search rules)))
+
+pub returns-in-Went : goal.returns-in-Went
+returns-in-Went c =
+    let a = c.args in
+    let pre = c.requires in
+    let n = c.lead_after-n in
+    let o = c.open_at-m in
+    let z = c.resettle in
+    let q = sym c.limited-r.ensures ∙ c.in record { sane_after = (-Went.is in
+    let e = c.in-Went.e in
+    let half : length o.last.0 ≡ length a.w.now = c.open_at-m.kept.w in
+    let same : length z.last.0 ≡ length a.w.now = z.kept.w ∙ half in (
+      yank-sane a.w.now z.last.0 a.d o.result e pre.0 same o.ensures.ordered q,
+      yank-went a.w.now a.dir.now a.d a.h pre.0.room n.result n.ensures.lead_after o.last.0 o.result o.ensures.opens_at half o.ensures.ordered e q _ _ same z.ensures,
+    )).0; yank_marks = (-Went.is in
+    let e = c.in-Went.e in
+    let half : length o.last.0 ≡ length a.w.now = c.open_at-m.kept.w in
+    let same : length z.last.0 ≡ length a.w.now = z.kept.w ∙ half in (
+      yank-sane a.w.now z.last.0 a.d o.result e pre.0 same o.ensures.ordered q,
+      yank-went a.w.now a.dir.now a.d a.h pre.0.room n.result n.ensures.lead_after o.last.0 o.result o.ensures.opens_at half o.ensures.ordered e q _ _ same z.ensures,
+    )).1 }
+
+pub returns-in-Refused : goal.returns-in-Refused
+returns-in-Refused c =
+    let a = c.args in
+    let pre = c.requires in
+    let n = c.lead_after-n in
+    let o = c.open_at-m in
+    let q = sym c.limited-r.ensures ∙ c.in record { sane_after = (-Refused.is in
+    let same : length o.last.0 ≡ length a.w.now = c.open_at-m.kept.w in
+    (tt, yank-refused a.w.now a.dir.now a.d a.h pre.0.room n.result n.ensures.lead_after o.last.0 o.result o.ensures.opens_at same o.ensures.ordered _ q _)).0; yank_marks = (-Refused.is in
+    let same : length o.last.0 ≡ length a.w.now = c.open_at-m.kept.w in
+    (tt, yank-refused a.w.now a.dir.now a.d a.h pre.0.room n.result n.ensures.lead_after o.last.0 o.result o.ensures.opens_at same o.ensures.ordered _ q _)).1 }

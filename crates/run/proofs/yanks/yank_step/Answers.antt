@@ -1,0 +1,103 @@
+-- Outside a set 24, an unknown name 26, a name of no other set 27; else there is a new card in YANK$$$, and the bits are settled again.
+use Prim.Native.Nat.{ℕ, ◌+◌}
+use native.Mathlib.Omega.{arith}
+use mathlib.Core.Path.{◌≡◌, sym, ap, ◌∙◌, subst}
+use mathlib.Core.List.{List}
+use lib.ListN.{length, take}
+use borrow.Author.Rules.{rules}
+use Rattle.words.specs.Base.{any}
+use Rattle.run.specs.Desk.{SaneAfter}
+use Rattle.run.specs.YankNames.{names_in, unknown_in, no_set_in, LeadAfter, PutsYank}
+use Rattle.run.specs.declared.desk.Stepped.TheVariants.{Went as SteppedOn, Refused as SteppedOff}
+use Rattle.run.proofs.Sums.{entry_place, deck-fits, decks-in}
+use Rattle.run.proofs.Correcting.{not_taken, not_left}
+use Rattle.run.proofs.YankTests.{yank-off, yank-unknown, yank-no-set, yank-on}
+use Rattle.run.proofs.yanks.yank_step.Goals as goal
+
+pub returns-then-not-d : goal.returns-then-not-d
+returns-then-not-d c =
+    let a = c.args in record { sane_after = tt; yank_steps = yank-off a.w.now a.dir.now a.names.now a.flags.now a.d a.line.now _ _ (not_taken a.d.set c.if-not-d.true) }
+
+pub overflow_add-k : goal.overflow_add-k
+overflow_add-k c = deck-fits _ c.requires.0.decks
+
+pub any_unknown-requires : goal.any_unknown-requires
+any_unknown-requires c = entry_place _ _ c.requires.0.entries c.requires.1.0
+
+pub returns-then-any_unknown : goal.returns-then-any_unknown
+returns-then-any_unknown c =
+    let a = c.args in
+    let set = not_left a.d.set c.if-not-d.false in
+    let same = c.field_of-field.ensures in
+    let unknown = ap (λ (f : List ℕ). any (unknown_in (take a.d.entries a.dir.now)) (names_in f)) (sym same) ∙ sym c.any_unknown.ensures ∙ c.if-any_unknown.true in record { sane_after = tt; yank_steps = yank-unknown a.w.now a.dir.now a.names.now a.flags.now a.d a.line.now _ _ set unknown }
+
+pub any_no_set-requires : goal.any_no_set-requires
+any_no_set-requires c = let p = c.requires in (entry_place _ _ p.0.entries p.1.0, decks-in _ _ p.0.decks p.1.1.0)
+
+pub returns-then-any_no_set : goal.returns-then-any_no_set
+returns-then-any_no_set c =
+    let a = c.args in
+    let set = not_left a.d.set c.if-not-d.false in
+    let same = c.field_of-field.ensures in
+    let known = ap (λ (f : List ℕ). any (unknown_in (take a.d.entries a.dir.now)) (names_in f)) (sym same) ∙ sym c.any_unknown.ensures ∙ c.if-any_unknown.false in
+    let barred = ap (λ (f : List ℕ). any (no_set_in a.d.entries (take a.d.entries a.dir.now) (take (a.d.decks + 1) a.names.now)) (names_in f)) (sym same) ∙ sym c.any_no_set.ensures ∙ c.if-any_no_set.true in record { sane_after = tt; yank_steps = yank-no-set a.w.now a.dir.now a.names.now a.flags.now a.d a.line.now _ _ set known barred }
+
+pub put_yank-requires : goal.put_yank-requires
+put_yank-requires c = c.requires.0
+
+pub resettle-requires : goal.resettle-requires
+resettle-requires c =
+    let pre = c.requires in
+    let p = c.put_yank in
+    let e = c.in-Went.is in
+    (subst (SaneAfter p.new.w) e p.ensures.sane_after.0, (subst LeadAfter e p.ensures.sane_after.1, (pre.1.0, pre.1.1.1)))
+
+pub shape_of-w-in-Went : goal.shape_of-w-in-Went
+shape_of-w-in-Went c = c.resettle.auto.w ∙ c.put_yank.auto.w
+
+pub shape_of-flags : goal.shape_of-flags
+shape_of-flags c = c.resettle.auto.flags
+
+pub returns-in-Went : goal.returns-in-Went
+returns-in-Went c =
+    let a = c.args in
+    let pre = c.requires in
+    let set = not_left a.d.set c.if-not-d.false in
+    let field = c.field_of-field.ensures in
+    let known = ap (λ (f : List ℕ). any (unknown_in (take a.d.entries a.dir.now)) (names_in f)) (sym field) ∙ sym c.any_unknown.ensures ∙ c.if-any_unknown.false in
+    let free = ap (λ (f : List ℕ). any (no_set_in a.d.entries (take a.d.entries a.dir.now) (take (a.d.decks + 1) a.names.now)) (names_in f)) (sym field) ∙ sym c.any_no_set.ensures ∙ c.if-any_no_set.false in
+    let p = c.put_yank in
+    let r = c.resettle in
+    let e = c.in record { sane_after = (-Went.is in
+    let sane = subst (SaneAfter p.new.w) e p.ensures.sane_after.0 in
+    let same : length r.new.w ≡ length p.new.w = c.resettle.auto.w in (
+      record { ordered = (sane.ordered.0, omega (arith, sane.ordered.1)); room = same ∙ sane.room; entries = sane.entries; decks = sane.decks; cards = sane.cards; next = sane.next; yanks = sane.yanks; low = sane.low },
+      yank-on a.w.now a.dir.now a.names.now a.flags.now a.d a.line.now r.new.w r.new.flags set known free p.new.w (SteppedOn c.in-Went.e) (subst (PutsYank a.w.now a.d a.line.now p.new.w) e p.ensures.puts_yank) (same ∙ sane.room) r.ensures,
+    )).0; yank_steps = (-Went.is in
+    let sane = subst (SaneAfter p.new.w) e p.ensures.sane_after.0 in
+    let same : length r.new.w ≡ length p.new.w = c.resettle.auto.w in (
+      record { ordered = (sane.ordered.0, omega (arith, sane.ordered.1)); room = same ∙ sane.room; entries = sane.entries; decks = sane.decks; cards = sane.cards; next = sane.next; yanks = sane.yanks; low = sane.low },
+      yank-on a.w.now a.dir.now a.names.now a.flags.now a.d a.line.now r.new.w r.new.flags set known free p.new.w (SteppedOn c.in-Went.e) (subst (PutsYank a.w.now a.d a.line.now p.new.w) e p.ensures.puts_yank) (same ∙ sane.room) r.ensures,
+    )).1 }
+
+pub shape_of-w-in-Refused : goal.shape_of-w-in-Refused
+shape_of-w-in-Refused c = c.put_yank.auto.w
+
+pub returns-in-Refused : goal.returns-in-Refused
+returns-in-Refused c =
+    let a = c.args in
+    let pre = c.requires in
+    let set = not_left a.d.set c.if-not-d.false in
+    let field = c.field_of-field.ensures in
+    let known = ap (λ (f : List ℕ). any (unknown_in (take a.d.entries a.dir.now)) (names_in f)) (sym field) ∙ sym c.any_unknown.ensures ∙ c.if-any_unknown.false in
+    let free = ap (λ (f : List ℕ). any (no_set_in a.d.entries (take a.d.entries a.dir.now) (take (a.d.decks + 1) a.names.now)) (names_in f)) (sym field) ∙ sym c.any_no_set.ensures ∙ c.if-any_no_set.false in
+    let p = c.put_yank in
+    let e = c.in record { sane_after = (-Refused.is in
+    let same : length p.new.w ≡ length a.w.now = c.put_yank.auto.w in (
+      tt,
+      yank-on a.w.now a.dir.now a.names.now a.flags.now a.d a.line.now p.new.w a.flags.now set known free p.new.w (SteppedOff c.in-Refused.y) (subst (PutsYank a.w.now a.d a.line.now p.new.w) e p.ensures.puts_yank) (same ∙ pre.0.room) tt,
+    )).0; yank_steps = (-Refused.is in
+    let same : length p.new.w ≡ length a.w.now = c.put_yank.auto.w in (
+      tt,
+      yank-on a.w.now a.dir.now a.names.now a.flags.now a.d a.line.now p.new.w a.flags.now set known free p.new.w (SteppedOff c.in-Refused.y) (subst (PutsYank a.w.now a.d a.line.now p.new.w) e p.ensures.puts_yank) (same ∙ pre.0.room) tt,
+    )).1 }

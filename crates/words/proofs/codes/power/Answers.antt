@@ -1,0 +1,18 @@
+-- `codes::power` is right because a shift by six bits is a factor of 64. Assumes nothing.
+use borrow.Author.Rules.{rules}
+use Prim.Native.Nat.{◌^◌}
+use mathlib.Core.Path.{sym, ap, ◌∙◌}
+use mathlib.Core.Bool.{Bool}
+use native.Mathlib.Omega.{arith}
+use borrow.Author.Tests.{lt-ltb, le-ltb}
+use Rattle.words.specs.Base.{if◌then◌else◌}
+use Rattle.words.proofs.Powers.{shifted}
+use Rattle.words.proofs.codes.power.Goals as goal
+
+pub returns-then-k-ge-TEN : goal.returns-then-k-ge-TEN
+returns-then-k-ge-TEN c = sym (ap (λ (b : Bool). if b then 64 ^ c.args.k else 0) (le-ltb c.args.k 10 (omega arith)))
+
+pub returns : goal.returns
+returns c =
+    let k = c.args.k in
+    shifted k (omega arith) ∙ sym (ap (λ (b : Bool). if b then 64 ^ k else 0) (lt-ltb k 10 (omega arith)))

@@ -1,0 +1,30 @@
+use Prim.Native.Nat.{◌+◌, ◌-◌, ◌≤◌}
+use mathlib.Core.Path.{sym, ◌∙◌}
+use lib.ListN.{length}
+use borrow.Author.Tests.{leb-true, leb-false, not-true, not-false}
+use Rattle.words_lists.proofs.OverLists.{over_none, Copied, copied-start, copied_more, copied_all}
+use borrow.Author.Rules.{rules}
+use Rattle.words_lists.proofs.lists.put_words.Goals as goal
+
+pub returns-then-not-within : goal.returns-then-not-within
+returns-then-not-within c =
+    let a = c.args in
+    sym (over_none a.at a.from.now a.out.now (leb-false _ _ (sym c.within.ensures ∙ not-true _ c.if-not-within.true)))
+
+pub loop-i-init : goal.loop-i-init
+loop-i-init c =
+    let a = c.args in
+    let f : a.at + length a.from.now ≤ length a.out.now = leb-true _ _ (sym c.within.ensures ∙ not-false _ c.if-not-within.false) in
+    (f, copied-start a.at a.from.now a.out.now f)
+
+pub loop-i-preserved : goal.loop-i-preserved
+loop-i-preserved c =
+    let l = c.loop-i in
+    let a = c.args in
+    (l.invariant.0, copied_more a.at a.from.now a.out.now l.invariant.0 l.i l.out l.invariant.1 c.loop-i-test.true)
+
+pub returns : goal.returns
+returns c =
+    let l = c.loop-i in
+    let a = c.args in
+    copied_all a.at a.from.now a.out.now l.invariant.0 l.i l.out l.invariant.1 c.loop-i-test.false

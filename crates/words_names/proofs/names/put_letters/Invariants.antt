@@ -1,0 +1,16 @@
+-- `names::put_letters` is right because the letters put are always the name's first. Assumes nothing.
+use borrow.Author.Rules.{rules}
+use Prim.Native.Nat.{◌+◌, ◌-◌, ◌≤◌, ◌<◌}
+use native.Mathlib.Omega.{arith}
+use mathlib.Core.Path.{◌≡◌, refl, sym, ap, ◌∙◌}
+use lib.ListN.{length, take, drop, length-set}
+use lib.Seq.{drop-drop, drop-set-lt}
+use Rattle.words.specs.Names.{name_of}
+use Rattle.words.proofs.NameWord.{codes_left, left-start, left-some, left-more, left-put, named-most, named-into}
+use Rattle.words_names.proofs.names.put_letters.Given as goal
+
+abbrev pub invariant-loop-i : goal.invariant-loop-i
+invariant-loop-i l = (l.i ≤ l.n) × ((length l.name ≡ 9) × (codes_left l.word l.i × ((take l.i l.name ≡ take l.i (name_of l.word)) × (drop l.i l.name ≡ drop l.i l.initial.name))))
+
+abbrev pub decreases-loop-i : goal.decreases-loop-i
+decreases-loop-i l = l.n - l.i

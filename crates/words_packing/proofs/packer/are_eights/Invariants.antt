@@ -1,0 +1,17 @@
+-- Right because the test of the words from i on is the test of all: those before have passed.
+use mathlib.Core.Path.{◌≡◌, ap, sym, ◌∙◌}
+use Prim.Native.Nat.{◌+◌, ◌-◌, ◌^◌, ◌≤◌, ◌<◌}
+use native.Mathlib.Omega.{arith}
+use lib.ListN.{length, take, drop}
+use borrow.Author.Rules.{rules}
+use Rattle.words.specs.Base.{all}
+use Rattle.words_packing.specs.Pack.{low_number, words_of_eights}
+use Rattle.words.specs.Base.{is_word}
+use Rattle.words_packing.proofs.PackedPair.{all_more, all-fails, eights_at, eights-end}
+use Rattle.words_packing.proofs.packer.are_eights.Given as goal
+
+abbrev pub invariant-loop-i : goal.invariant-loop-i
+invariant-loop-i l = (l.i ≤ length l.words) × (all is_word (words_of_eights (drop l.i l.words)) ≡ all is_word (words_of_eights l.words))
+
+abbrev pub decreases-loop-i : goal.decreases-loop-i
+decreases-loop-i l = length l.words - l.i

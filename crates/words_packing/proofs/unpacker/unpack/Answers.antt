@@ -1,0 +1,42 @@
+-- Right because the answer is tested first, and only one of done writes.
+use mathlib.Core.Path.{sym, ◌∙◌}
+use lib.ListN.{length}
+use borrow.Author.Rules.{rules}
+use Rattle.words_packing.specs.Pack.{space_after}
+use Rattle.words_packing.proofs.PackAnswer.{accepted}
+use Rattle.words_packing.proofs.UnpackAnswer.{unpack-done}
+use Rattle.words_packing.proofs.unpacker.unpack.Goals as goal
+
+pub write_unpacked-requires : goal.write_unpacked-requires
+write_unpacked-requires c =
+    let a = c.args in
+    let k = accepted a.bytes.now (length a.out.now) _ (sym c.unpackable-answer.ensures ∙ c.in-Done.is) in
+    (k.right, k.fits)
+
+pub returns-in-Done : goal.returns-in-Done
+returns-in-Done c =
+    let a = c.args in
+    let told = sym c.unpackable-answer.ensures ∙ c.in record { value = (-Done.is in
+    (sym told, c.write_unpacked.ensures ∙ unpack-done a.bytes.now a.out.now _ told)).0; out_after = (-Done.is in
+    (sym told, c.write_unpacked.ensures ∙ unpack-done a.bytes.now a.out.now _ told)).1 }
+
+pub returns-in-Length : goal.returns-in-Length
+unfolding space_after
+returns-in-Length c =
+    let told = sym c.unpackable-answer.ensures ∙ c.in record { value = (-Length.is in
+    (sym told, rw told)).0; out_after = (-Length.is in
+    (sym told, rw told)).1 }
+
+pub returns-in-Tail : goal.returns-in-Tail
+unfolding space_after
+returns-in-Tail c =
+    let told = sym c.unpackable-answer.ensures ∙ c.in record { value = (-Tail.is in
+    (sym told, rw told)).0; out_after = (-Tail.is in
+    (sym told, rw told)).1 }
+
+pub returns-in-Space : goal.returns-in-Space
+unfolding space_after
+returns-in-Space c =
+    let told = sym c.unpackable-answer.ensures ∙ c.in record { value = (-Space.is in
+    (sym told, rw told)).0; out_after = (-Space.is in
+    (sym told, rw told)).1 }

@@ -1,0 +1,18 @@
+-- `line::put_blanks` is right because a run above 64 is one of 64 and the rest. Assumes nothing.
+use borrow.Author.Rules.{rules}
+use native.Mathlib.Omega.{arith}
+use Rattle.words_text_compress.proofs.CodesBehind.{put_as, put_then, blanks-short, blanks-long}
+use Rattle.words_text_compress.proofs.line.put_blanks.Goals as goal
+
+pub returns-then-n-le-RUN : goal.returns-then-n-le-RUN
+returns-then-n-le-RUN c =
+    let a = c.args in record { value = (put_as _ _ a.codes.now _ a.at _ (blanks-short a.n c.if-n-le-RUN.true) c.put_run.ensures).0; codes_after = (put_as _ _ a.codes.now _ a.at _ (blanks-short a.n c.if-n-le-RUN.true) c.put_run.ensures).1 }
+
+pub returns : goal.returns
+returns c =
+    let a = c.args in record {
+      value = (put_as _ _ a.codes.now _ a.at _ (blanks-long a.n c.if-n-le-RUN.false (omega arith))
+          (put_then _ _ a.codes.now _ _ a.at _ _ c.put_two-next.ensures c.put_run-2.ensures)).0;
+      codes_after = (put_as _ _ a.codes.now _ a.at _ (blanks-long a.n c.if-n-le-RUN.false (omega arith))
+          (put_then _ _ a.codes.now _ _ a.at _ _ c.put_two-next.ensures c.put_run-2.ensures)).1;
+    }

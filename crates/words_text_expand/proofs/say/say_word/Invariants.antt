@@ -1,0 +1,11 @@
+-- `say::say_word` is right because the columns put, then those that the codes still at the top of w say, are always the whole word's. Assumes nothing.
+use borrow.Author.Rules.{rules}
+use Prim.Native.Nat.{◌-◌}
+use Rattle.words_text_expand.proofs.SaidColumns.{SaidWord, word-start, code_below, code_fits, word_more, word_end}
+use Rattle.words_text_expand.proofs.say.say_word.Given as goal
+
+abbrev pub invariant-loop-k : goal.invariant-loop-k
+invariant-loop-k l = SaidWord l.word l.ahead l.at l.initial.line l.line l.w l.p l.n l.k
+
+abbrev pub decreases-loop-k : goal.decreases-loop-k
+decreases-loop-k l = 10 - l.k

@@ -1,0 +1,12 @@
+-- `form::walk_word` is right because the codes still at the top of w give what the whole word gives. Assumes nothing.
+use borrow.Author.Rules.{rules}
+use Prim.Native.Nat.{◌-◌}
+use native.Mathlib.Omega.{arith}
+use Rattle.words_text_form.proofs.FormWalk.{Walked, walked_start, columns-few, walked_more, walked_all}
+use Rattle.words_text_form.proofs.form.walk_word.Given as goal
+
+abbrev pub invariant-loop-k : goal.invariant-loop-k
+invariant-loop-k l = Walked l.word l.state l.columns l.w l.s l.n l.k
+
+abbrev pub decreases-loop-k : goal.decreases-loop-k
+decreases-loop-k l = 10 - l.k
