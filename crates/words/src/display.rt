@@ -14,6 +14,7 @@ pub const BLANK: u8 = b' ';
 // a blank's code
 pub const GAP: u8 = 0o55;
 
+#[tactic(auto, unfolding(crate::specs::Display::code_of))]
 pub fn code_of(b: u8) -> u8
     ensures { result ≡ code_of b }
 {
@@ -53,6 +54,7 @@ pub fn code_of(b: u8) -> u8
 }
 
 // A code's letter; a blank where it is no code.
+#[tactic(auto, unfolding(crate::specs::Display::letter))]
 pub fn letter_of(c: u8) -> u8
     ensures { result ≡ letter c }
 {

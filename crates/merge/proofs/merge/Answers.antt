@@ -15,21 +15,13 @@ merge_sound-requires c =
 pub returns-in-Refused : goal.returns-in-Refused
 returns-in-Refused c =
     let a = c.args in
-    let k = c.fault-1.given in
-    let r = first-answer a.first.now a.second.now a.space.now c.in record { answer = (-Refused.fault c.in-Refused.place (sym c.check.ensures ∙ c.in-Refused.is) in
-    (r.answer, r.written)).0; space = (-Refused.fault c.in-Refused.place (sym c.check.ensures ∙ c.in-Refused.is) in
-    (r.answer, r.written)).1 }
+    let r = first-answer a.first.now a.second.now a.space.now c.in-Refused.fault c.in-Refused.place (sym c.check.ensures ∙ c.in-Refused.is) in record { answer = r.answer; space = r.written }
 
 pub returns-in-Refused-check : goal.returns-in-Refused-check
 returns-in-Refused-check c =
     let a = c.args in
-    let k = c.fault-in record { answer = (-Refused-check-2-1.given in
     let r =
-    second-answer a.first.now a.second.now a.space.now c.in-Refused-check.fault c.in-Refused-check.place (sym c.check.ensures ∙ c.in-Sound.is) (sym c.check-in-Sound.ensures ∙ c.in-Refused-check.is) in
-    (r.answer, r.written)).0; space = (-Refused-check-2-1.given in
-    let r =
-    second-answer a.first.now a.second.now a.space.now c.in-Refused-check.fault c.in-Refused-check.place (sym c.check.ensures ∙ c.in-Sound.is) (sym c.check-in-Sound.ensures ∙ c.in-Refused-check.is) in
-    (r.answer, r.written)).1 }
+    second-answer a.first.now a.second.now a.space.now c.in-Refused-check.fault c.in-Refused-check.place (sym c.check.ensures ∙ c.in-Sound.is) (sym c.check-in-Sound.ensures ∙ c.in-Refused-check.is) in record { answer = r.answer; space = r.written }
 
 pub returns-in-Sound-check : goal.returns-in-Sound-check
 returns-in-Sound-check c =

@@ -14,10 +14,7 @@ run_stream-requires c =
 pub returns-in-Refused : goal.returns-in-Refused
 returns-in-Refused c =
     let a = c.args in
-    let k = c.f-1.given in
-    let r = run-refused a.old.now a.stream.now a.space.now c.in record { answer = (-Refused.f c.in-Refused.p (sym c.check.ensures ∙ c.in-Refused.is) in
-    (r.answer, r.written)).0; space_after = (-Refused.f c.in-Refused.p (sym c.check.ensures ∙ c.in-Refused.is) in
-    (r.answer, r.written)).1 }
+    let r = run-refused a.old.now a.stream.now a.space.now c.in-Refused.f c.in-Refused.p (sym c.check.ensures ∙ c.in-Refused.is) in record { answer = r.answer; space_after = r.written }
 
 pub returns-in-Sound : goal.returns-in-Sound
 returns-in-Sound c =

@@ -26,7 +26,6 @@ loop-at-init c =
 
 pub returns-then-list-d : goal.returns-then-list-d
 returns-then-list-d c =
-    let a = c.args in
     let ws = c.args.image.now in
     let D = c.args.directory.now in
     let L = c.args.list.now in
@@ -48,7 +47,6 @@ is_next-requires c = c.see-c.ensures.text_le_next.1.1 c.loop-at-test.true
 
 pub returns-then-not-is_next : goal.returns-then-not-is_next
 returns-then-not-is_next c =
-    let a = c.args in
     let ws = c.args.image.now in
     let D = c.args.directory.now in
     let L = c.args.list.now in
@@ -72,7 +70,6 @@ loop-at-smaller-else-not-is_next c = omega (arith, c.see-c.ensures.text_le_next.
 
 pub loop-at-preserved-else-not-is_next : goal.loop-at-preserved-else-not-is_next
 loop-at-preserved-else-not-is_next c =
-    let a = c.args in
     let ws = c.args.image.now in
     let D = c.args.directory.now in
     let L = c.args.list.now in
@@ -100,7 +97,6 @@ loop-at-smaller c = omega (arith, c.see-c.ensures.text_le_next.1.1 c.loop-at-tes
 
 pub loop-at-preserved : goal.loop-at-preserved
 loop-at-preserved c =
-    let a = c.args in
     let ws = c.args.image.now in
     let D = c.args.directory.now in
     let L = c.args.list.now in
@@ -118,7 +114,6 @@ loop-at-preserved c =
 
 pub returns-then-d-list : goal.returns-then-d-list
 returns-then-d-list c =
-    let a = c.args in
     let ws = c.args.image.now in
     let D = c.args.directory.now in
     let L = c.args.list.now in
@@ -132,7 +127,6 @@ returns-then-d-list c =
 
 pub returns : goal.returns
 returns c =
-    let a = c.args in
     let ws = c.args.image.now in
     let D = c.args.directory.now in
     let L = c.args.list.now in

@@ -20,7 +20,7 @@ put_row-requires c =
     put-room c.args.image.now c.args.table.now c.requires l.table l.at l.n l.invariant c.loop-at-test.true _ c.see-c.ensures.value _ c.title_of.ensures _ c.deck_end-end.ensures.value c.if-n-eq-TABLE.false
 
 pub loop-at-smaller : goal.loop-at-smaller
-loop-at-smaller c = let l = c.loop-at in let s = c.see-c.ensures.text_le_next in let e = c.deck_end-end.ensures.upper_bound in omega (arith, c.loop-at-test.true, s.0, s.1.0, s.1.1 c.loop-at-test.true, e.1 s.1.0)
+loop-at-smaller c = let s = c.see-c.ensures.text_le_next in let e = c.deck_end-end.ensures.upper_bound in omega (arith, c.loop-at-test.true, s.0, s.1.0, s.1.1 c.loop-at-test.true, e.1 s.1.0)
 
 pub loop-at-preserved : goal.loop-at-preserved
 loop-at-preserved c =

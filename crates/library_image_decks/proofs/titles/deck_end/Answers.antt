@@ -16,7 +16,7 @@ returns-then-begins c = let l = c.loop-at in let a = c.args in
     let t = sym (ap (λ x. is_title (title_in a.image.now x)) s.value) ∙ sym (ap is_title c.title_of.ensures) ∙ sym c.begins.ensures ∙ c.if-begins.true in record { upper_bound = (search rules, λ h. l.invariant.0); value = sym (l.invariant.1 ∙ end-here a.image.now l.at c.loop-at-test.true t) }
 
 pub loop-at-smaller : goal.loop-at-smaller
-loop-at-smaller c = let l = c.loop-at in omega (arith, c.loop-at-test.true, c.see-c.ensures.text_le_next.0, c.see-c.ensures.text_le_next.1.0, c.see-c.ensures.text_le_next.1.1 c.loop-at-test.true)
+loop-at-smaller c = omega (arith, c.loop-at-test.true, c.see-c.ensures.text_le_next.0, c.see-c.ensures.text_le_next.1.0, c.see-c.ensures.text_le_next.1.1 c.loop-at-test.true)
 
 pub loop-at-preserved : goal.loop-at-preserved
 loop-at-preserved c = let l = c.loop-at in let a = c.args in

@@ -14,7 +14,6 @@ pub loop-word-smaller : goal.loop-word-smaller
 loop-word-smaller c =
     let a = c.args in
     let l = c.loop-word in
-    let w = c.word-1.given in
     let s = step-name a.field.now l.at c.in-Name.word c.in-Name.next (sym c.next_name.ensures ∙ c.in-Name.is) in
     omega (arith, s.falls, s.inside)
 
@@ -23,7 +22,6 @@ loop-word-preserved c =
     let a = c.args in
     let know = c.requires in
     let l = c.loop-word in
-    let w = c.word-1.given in
     let e = sym c.next_name.ensures ∙ c.in-Name.is in
     let s = step-name a.field.now l.at c.in-Name.word c.in-Name.next e in (
       s.bound,

@@ -32,11 +32,7 @@ pub returns-in-Ident : goal.returns-in-Ident
 returns-in-Ident c =
     let a = c.args in
     let p = c.ident_step in
-    let k = c.asked-in record { sane_after = (-Ident-1.given in
-    let sane = c.requires.0 in
-    (p.ensures.stays_sane a.w.now sane, ident-obeys a.w.now a.dir.now a.names.now a.decks.now a.flags.now a.d a.line.now p.result c.in-Ident.word p.new.dir sane (sym c.directive-asked.ensures ∙ c.in-Ident.is) p.ensures.ident_steps)).0; obeys_line = (-Ident-1.given in
-    let sane = c.requires.0 in
-    (p.ensures.stays_sane a.w.now sane, ident-obeys a.w.now a.dir.now a.names.now a.decks.now a.flags.now a.d a.line.now p.result c.in-Ident.word p.new.dir sane (sym c.directive-asked.ensures ∙ c.in-Ident.is) p.ensures.ident_steps)).1 }
+    let sane = c.requires.0 in record { sane_after = p.ensures.stays_sane a.w.now sane; obeys_line = ident-obeys a.w.now a.dir.now a.names.now a.decks.now a.flags.now a.d a.line.now p.result c.in-Ident.word p.new.dir sane (sym c.directive-asked.ensures ∙ c.in-Ident.is) p.ensures.ident_steps }
 
 pub returns-in_default : goal.returns-in_default
 returns-in_default c =
@@ -47,9 +43,6 @@ pub returns-in-Deck : goal.returns-in-Deck
 returns-in-Deck c =
     let a = c.args in
     let p = c.deck_step in
-    let m = c.match-asked in
     let r = c.directive-asked in
     let asked : (common : Bool) × (directive a.line.now ≡ asks_deck common c.in-Deck.word) =
-    ⊎_elim (λ x. (false, sym r.ensures ∙ x.1.given.1 ∙ ap (asks_deck false) (sym x.3))) (λ x. (true, sym r.ensures ∙ x.1.given.1 ∙ ap (asks_deck true) (sym x.3))) c.in record { sane_after = (-Deck.match-asked-branch in
-    (p.ensures.sane_after, deck-obeys a.w.now a.dir.now a.names.now a.decks.now a.flags.now a.d a.line.now p.result asked.0 c.in-Deck.word p.new.w p.new.dir p.new.names p.new.decks asked.1 p.ensures.deck_steps)).0; obeys_line = (-Deck.match-asked-branch in
-    (p.ensures.sane_after, deck-obeys a.w.now a.dir.now a.names.now a.decks.now a.flags.now a.d a.line.now p.result asked.0 c.in-Deck.word p.new.w p.new.dir p.new.names p.new.decks asked.1 p.ensures.deck_steps)).1 }
+    ⊎_elim (λ x. (false, sym r.ensures ∙ x.1.given.1 ∙ ap (asks_deck false) (sym x.3))) (λ x. (true, sym r.ensures ∙ x.1.given.1 ∙ ap (asks_deck true) (sym x.3))) c.in-Deck.match-asked-branch in record { sane_after = p.ensures.sane_after; obeys_line = deck-obeys a.w.now a.dir.now a.names.now a.decks.now a.flags.now a.d a.line.now p.result asked.0 c.in-Deck.word p.new.w p.new.dir p.new.names p.new.decks asked.1 p.ensures.deck_steps }

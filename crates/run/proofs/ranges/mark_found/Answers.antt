@@ -87,12 +87,7 @@ returns-in-Done c =
     let titles : HasTitle o.last.0 a.decks.now o.result.hi (a.l.index - a.f.index + 1) false = subst (HasTitle o.last.0 a.decks.now o.result.hi (a.l.index - a.f.index + 1)) c.if-has_title.left n.ensures in
     let m = c.mark_to-m in
     let full : length m.last.0 ≡ length a.w.now = m.kept.w ∙ half in
-    let k = c.in record { sane_after = (-Done.k in
+    let k = c.in-Done.k in
     let done = c.in-Done.is in
     let ordered : Ordered o.last.0 k = subst (KeepsOrder o.last.0) done m.ensures.keeps_order in
-    let y = c.range_marked in
-    (y.ensures.sane_after, found-done a.w.now a.dir.now a.decks.now a.flags.now a.d a.was a.f a.l a.seq pre.0 pre.1.1.1.1.0 o.last.0 o.result half o.ensures.ordered o.ensures.opens_ahead titles m.last.0 m.result full m.ensures.marks_to k done ordered y.last.0 y.last.1.1.0 y.result y.ensures.goes_on)).0; marks_found = (-Done.k in
-    let done = c.in-Done.is in
-    let ordered : Ordered o.last.0 k = subst (KeepsOrder o.last.0) done m.ensures.keeps_order in
-    let y = c.range_marked in
-    (y.ensures.sane_after, found-done a.w.now a.dir.now a.decks.now a.flags.now a.d a.was a.f a.l a.seq pre.0 pre.1.1.1.1.0 o.last.0 o.result half o.ensures.ordered o.ensures.opens_ahead titles m.last.0 m.result full m.ensures.marks_to k done ordered y.last.0 y.last.1.1.0 y.result y.ensures.goes_on)).1 }
+    let y = c.range_marked in record { sane_after = y.ensures.sane_after; marks_found = found-done a.w.now a.dir.now a.decks.now a.flags.now a.d a.was a.f a.l a.seq pre.0 pre.1.1.1.1.0 o.last.0 o.result half o.ensures.ordered o.ensures.opens_ahead titles m.last.0 m.result full m.ensures.marks_to k done ordered y.last.0 y.last.1.1.0 y.result y.ensures.goes_on }

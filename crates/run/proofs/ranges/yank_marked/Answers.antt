@@ -22,19 +22,10 @@ returns-in-Went c =
     let n = c.lead_after-n in
     let o = c.open_at-m in
     let z = c.resettle in
-    let q = sym c.limited-r.ensures ∙ c.in record { sane_after = (-Went.is in
+    let q = sym c.limited-r.ensures ∙ c.in-Went.is in
     let e = c.in-Went.e in
     let half : length o.last.0 ≡ length a.w.now = c.open_at-m.kept.w in
-    let same : length z.last.0 ≡ length a.w.now = z.kept.w ∙ half in (
-      yank-sane a.w.now z.last.0 a.d o.result e pre.0 same o.ensures.ordered q,
-      yank-went a.w.now a.dir.now a.d a.h pre.0.room n.result n.ensures.lead_after o.last.0 o.result o.ensures.opens_at half o.ensures.ordered e q _ _ same z.ensures,
-    )).0; yank_marks = (-Went.is in
-    let e = c.in-Went.e in
-    let half : length o.last.0 ≡ length a.w.now = c.open_at-m.kept.w in
-    let same : length z.last.0 ≡ length a.w.now = z.kept.w ∙ half in (
-      yank-sane a.w.now z.last.0 a.d o.result e pre.0 same o.ensures.ordered q,
-      yank-went a.w.now a.dir.now a.d a.h pre.0.room n.result n.ensures.lead_after o.last.0 o.result o.ensures.opens_at half o.ensures.ordered e q _ _ same z.ensures,
-    )).1 }
+    let same : length z.last.0 ≡ length a.w.now = z.kept.w ∙ half in record { sane_after = yank-sane a.w.now z.last.0 a.d o.result e pre.0 same o.ensures.ordered q; yank_marks = yank-went a.w.now a.dir.now a.d a.h pre.0.room n.result n.ensures.lead_after o.last.0 o.result o.ensures.opens_at half o.ensures.ordered e q _ _ same z.ensures }
 
 pub returns-in-Refused : goal.returns-in-Refused
 returns-in-Refused c =
@@ -42,8 +33,5 @@ returns-in-Refused c =
     let pre = c.requires in
     let n = c.lead_after-n in
     let o = c.open_at-m in
-    let q = sym c.limited-r.ensures ∙ c.in record { sane_after = (-Refused.is in
-    let same : length o.last.0 ≡ length a.w.now = c.open_at-m.kept.w in
-    (tt, yank-refused a.w.now a.dir.now a.d a.h pre.0.room n.result n.ensures.lead_after o.last.0 o.result o.ensures.opens_at same o.ensures.ordered _ q _)).0; yank_marks = (-Refused.is in
-    let same : length o.last.0 ≡ length a.w.now = c.open_at-m.kept.w in
-    (tt, yank-refused a.w.now a.dir.now a.d a.h pre.0.room n.result n.ensures.lead_after o.last.0 o.result o.ensures.opens_at same o.ensures.ordered _ q _)).1 }
+    let q = sym c.limited-r.ensures ∙ c.in-Refused.is in
+    let same : length o.last.0 ≡ length a.w.now = c.open_at-m.kept.w in record { sane_after = tt; yank_marks = yank-refused a.w.now a.dir.now a.d a.h pre.0.room n.result n.ensures.lead_after o.last.0 o.result o.ensures.opens_at same o.ensures.ordered _ q _ }

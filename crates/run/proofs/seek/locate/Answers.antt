@@ -48,7 +48,6 @@ returns-then-is_card c =
     let a = c.args in
     let p = c.requires in
     let l = c.loop-b in
-    let below = c.loop-b.invariant.1.1.1.1.0 in
     let above = c.loop-b.invariant.1.1.1.1.1 in
     let y : Place = record { at = l.b; index = l.j } in record {
       at_in_bounds = (below-le _ _ c.loop-b-test.true, low_near _ _ _ p.1.1 l.invariant.1.1.0 l.invariant.1.1.1.0);
@@ -66,7 +65,6 @@ returns-then-is_card-2 c =
     let p = c.requires in
     let l = c.loop-b in
     let below = c.loop-b.invariant.1.1.1.1.0 in
-    let above = c.loop-b.invariant.1.1.1.1.1 in
     let x : Place = record { at = l.a; index = l.i } in record {
       at_in_bounds = (below-le _ _ (below_all _ _ _ _ c.if-lo-a.false p.0.0 p.0.1), one-near _ _ l.invariant.0 l.invariant.1.0);
       locates = locates a.w.now a.g p.0 a.low a.owner a.seq _
@@ -113,7 +111,6 @@ returns-then-r-lo c =
     let p = c.requires in
     let l = c.loop-b in
     let below = c.loop-b.invariant.1.1.1.1.0 in
-    let above = c.loop-b.invariant.1.1.1.1.1 in
     let f = c.find-r-2 in
     let x : Place = record { at = f.result.at; index = l.i + f.result.index } in record {
       at_in_bounds = (order-on _ _ _ f.ensures.at_le_to.0 (order-on _ _ _ p.0.0 p.0.1), two-near _ _ l.invariant.0 l.invariant.1.0 _ f.ensures.at_le_to.1);

@@ -8,14 +8,12 @@ use Rattle.run.proofs.texts.put_line.Goals as goal
 
 pub slice_bounds-put_card-end : goal.slice_bounds-put_card-end
 slice_bounds-put_card-end c =
-    let k = c.c-1.given in
     let m = c.type_inv.text in
     let a = c.args in
     sym (words-space a.line.now _ _ c.in-Words.k (sym m.ensures.0 ∙ c.in-Words.is) refl m.ensures.1)
 
 pub put_card-requires : goal.put_card-requires
 put_card-requires c =
-    let k = c.c-1.given in
     let m = c.type_inv.text in
     let a = c.args in
     let few : c.in-Words.k ≤ 16 = words-few a.line.now c.in-Words.k (sym m.ensures.0 ∙ c.in-Words.is) in
@@ -24,7 +22,6 @@ put_card-requires c =
 
 pub returns-in-Words : goal.returns-in-Words
 returns-in-Words c =
-    let k = c.c-1.given in
     let m = c.type_inv.text in
     let a = c.args in record { hi_in_bounds = search rules; puts_line = line-put a.w.now a.g a.line.now _ _ c.in-Words.k a.seq a.n _ _ (sym m.ensures.0 ∙ c.in-Words.is) m.ensures.1 c.put_card.ensures.puts_card }
 

@@ -24,7 +24,6 @@ returns-then-is_no_set c =
 
 pub loop-word-smaller : goal.loop-word-smaller
 loop-word-smaller c =
-    let a = c.args in
     let l = c.loop-word in
     let f = c.args.field.now in
     let e = sym c.next_name.ensures ∙ c.in-Name.is in

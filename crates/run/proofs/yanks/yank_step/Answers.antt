@@ -61,24 +61,15 @@ shape_of-flags c = c.resettle.auto.flags
 pub returns-in-Went : goal.returns-in-Went
 returns-in-Went c =
     let a = c.args in
-    let pre = c.requires in
     let set = not_left a.d.set c.if-not-d.false in
     let field = c.field_of-field.ensures in
     let known = ap (λ (f : List ℕ). any (unknown_in (take a.d.entries a.dir.now)) (names_in f)) (sym field) ∙ sym c.any_unknown.ensures ∙ c.if-any_unknown.false in
     let free = ap (λ (f : List ℕ). any (no_set_in a.d.entries (take a.d.entries a.dir.now) (take (a.d.decks + 1) a.names.now)) (names_in f)) (sym field) ∙ sym c.any_no_set.ensures ∙ c.if-any_no_set.false in
     let p = c.put_yank in
     let r = c.resettle in
-    let e = c.in record { sane_after = (-Went.is in
+    let e = c.in-Went.is in
     let sane = subst (SaneAfter p.new.w) e p.ensures.sane_after.0 in
-    let same : length r.new.w ≡ length p.new.w = c.resettle.auto.w in (
-      record { ordered = (sane.ordered.0, omega (arith, sane.ordered.1)); room = same ∙ sane.room; entries = sane.entries; decks = sane.decks; cards = sane.cards; next = sane.next; yanks = sane.yanks; low = sane.low },
-      yank-on a.w.now a.dir.now a.names.now a.flags.now a.d a.line.now r.new.w r.new.flags set known free p.new.w (SteppedOn c.in-Went.e) (subst (PutsYank a.w.now a.d a.line.now p.new.w) e p.ensures.puts_yank) (same ∙ sane.room) r.ensures,
-    )).0; yank_steps = (-Went.is in
-    let sane = subst (SaneAfter p.new.w) e p.ensures.sane_after.0 in
-    let same : length r.new.w ≡ length p.new.w = c.resettle.auto.w in (
-      record { ordered = (sane.ordered.0, omega (arith, sane.ordered.1)); room = same ∙ sane.room; entries = sane.entries; decks = sane.decks; cards = sane.cards; next = sane.next; yanks = sane.yanks; low = sane.low },
-      yank-on a.w.now a.dir.now a.names.now a.flags.now a.d a.line.now r.new.w r.new.flags set known free p.new.w (SteppedOn c.in-Went.e) (subst (PutsYank a.w.now a.d a.line.now p.new.w) e p.ensures.puts_yank) (same ∙ sane.room) r.ensures,
-    )).1 }
+    let same : length r.new.w ≡ length p.new.w = c.resettle.auto.w in record { sane_after = record { ordered = (sane.ordered.0, omega (arith, sane.ordered.1)); room = same ∙ sane.room; entries = sane.entries; decks = sane.decks; cards = sane.cards; next = sane.next; yanks = sane.yanks; low = sane.low }; yank_steps = yank-on a.w.now a.dir.now a.names.now a.flags.now a.d a.line.now r.new.w r.new.flags set known free p.new.w (SteppedOn c.in-Went.e) (subst (PutsYank a.w.now a.d a.line.now p.new.w) e p.ensures.puts_yank) (same ∙ sane.room) r.ensures }
 
 pub shape_of-w-in-Refused : goal.shape_of-w-in-Refused
 shape_of-w-in-Refused c = c.put_yank.auto.w
@@ -92,12 +83,5 @@ returns-in-Refused c =
     let known = ap (λ (f : List ℕ). any (unknown_in (take a.d.entries a.dir.now)) (names_in f)) (sym field) ∙ sym c.any_unknown.ensures ∙ c.if-any_unknown.false in
     let free = ap (λ (f : List ℕ). any (no_set_in a.d.entries (take a.d.entries a.dir.now) (take (a.d.decks + 1) a.names.now)) (names_in f)) (sym field) ∙ sym c.any_no_set.ensures ∙ c.if-any_no_set.false in
     let p = c.put_yank in
-    let e = c.in record { sane_after = (-Refused.is in
-    let same : length p.new.w ≡ length a.w.now = c.put_yank.auto.w in (
-      tt,
-      yank-on a.w.now a.dir.now a.names.now a.flags.now a.d a.line.now p.new.w a.flags.now set known free p.new.w (SteppedOff c.in-Refused.y) (subst (PutsYank a.w.now a.d a.line.now p.new.w) e p.ensures.puts_yank) (same ∙ pre.0.room) tt,
-    )).0; yank_steps = (-Refused.is in
-    let same : length p.new.w ≡ length a.w.now = c.put_yank.auto.w in (
-      tt,
-      yank-on a.w.now a.dir.now a.names.now a.flags.now a.d a.line.now p.new.w a.flags.now set known free p.new.w (SteppedOff c.in-Refused.y) (subst (PutsYank a.w.now a.d a.line.now p.new.w) e p.ensures.puts_yank) (same ∙ pre.0.room) tt,
-    )).1 }
+    let e = c.in-Refused.is in
+    let same : length p.new.w ≡ length a.w.now = c.put_yank.auto.w in record { sane_after = tt; yank_steps = yank-on a.w.now a.dir.now a.names.now a.flags.now a.d a.line.now p.new.w a.flags.now set known free p.new.w (SteppedOff c.in-Refused.y) (subst (PutsYank a.w.now a.d a.line.now p.new.w) e p.ensures.puts_yank) (same ∙ pre.0.room) tt }

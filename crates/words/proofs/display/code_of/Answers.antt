@@ -35,7 +35,7 @@ beyond b a l h = sym (eqb→eq (code_of b) 64 (left_over (λ k. eqb (code_of k) 
 pub overflow_sub-result : goal.overflow_sub-result
 overflow_sub-result c =
     let b = c.args.b in
-    counts-from code_of 48 0o33 b (digits b c.in_default-1.rest c.if-b-lt32.false c.in-48-to-57.if-b-lt58-own.true)
+    counts-from code_of 48 0o33 b (digits b c.in-48-to-57.in_default-own.rest c.in-48-to-57.if-b-lt32-own.false c.in-48-to-57.if-b-lt58-own.true)
 
 pub overflow_add-result : goal.overflow_add-result
 overflow_add-result c = record { fits = digits-fit c.args.b c.in-48-to-57.if-b-lt58-own.true }
@@ -43,7 +43,7 @@ overflow_add-result c = record { fits = digits-fit c.args.b c.in-48-to-57.if-b-l
 pub overflow_sub-result-in-65-to-90 : goal.overflow_sub-result-in-65-to-90
 overflow_sub-result-in-65-to-90 c =
     let b = c.args.b in
-    counts-from code_of 65 0o01 b (letters b c.in_default-1.rest c.if-b-lt58.false c.in-65-to-90.if-b-lt91-own.true)
+    counts-from code_of 65 0o01 b (letters b c.in-65-to-90.in_default-own.rest c.in-65-to-90.if-b-lt58-own.false c.in-65-to-90.if-b-lt91-own.true)
 
 pub overflow_add-result-in-65-to-90 : goal.overflow_add-result-in-65-to-90
 overflow_add-result-in-65-to-90 c = record { fits = letters-fit c.args.b c.in-65-to-90.if-b-lt91-own.true }
@@ -51,15 +51,15 @@ overflow_add-result-in-65-to-90 c = record { fits = letters-fit c.args.b c.in-65
 pub returns-in-48-to-57 : goal.returns-in-48-to-57
 returns-in-48-to-57 c =
     let b = c.args.b in
-    counts-is code_of 48 0o33 b (digits b c.in_default-1.rest c.if-b-lt32.false c.in-48-to-57.if-b-lt58-own.true)
+    counts-is code_of 48 0o33 b (digits b c.in-48-to-57.in_default-own.rest c.in-48-to-57.if-b-lt32-own.false c.in-48-to-57.if-b-lt58-own.true)
 
 pub returns-in-65-to-90 : goal.returns-in-65-to-90
 returns-in-65-to-90 c =
     let b = c.args.b in
-    counts-is code_of 65 0o01 b (letters b c.in_default-1.rest c.if-b-lt58.false c.in-65-to-90.if-b-lt91-own.true)
+    counts-is code_of 65 0o01 b (letters b c.in-65-to-90.in_default-own.rest c.in-65-to-90.if-b-lt58-own.false c.in-65-to-90.if-b-lt91-own.true)
 
 pub returns-in_default : goal.returns-in_default
 returns-in_default c = sym (code-under c.args.b c.in_default.if-b-lt32-own.true)
 
 pub returns-in_default-2 : goal.returns-in_default-2
-returns-in_default-2 c = beyond c.args.b c.in_default-1.rest c.in_default.if-b-lt91-own.false c.ranges.b.fits
+returns-in_default-2 c = beyond c.args.b c.in_default.in_default-own.rest c.in_default.if-b-lt91-own.false c.ranges.b.fits

@@ -34,7 +34,7 @@ beyond c a l h = sym (eqb→eq (letter c) blank (left_over (λ k. eqb (letter k)
 pub overflow_sub-result : goal.overflow_sub-result
 overflow_sub-result c =
     let k = c.args.c in
-    counts-from letter 0o01 65 k (letters k c.in_default-1.rest c.in-1-to-26.if-c-lt27-own.true)
+    counts-from letter 0o01 65 k (letters k c.in-1-to-26.in_default-own.rest c.in-1-to-26.if-c-lt27-own.true)
 
 pub overflow_add-result : goal.overflow_add-result
 overflow_add-result c = record { fits = letters-fit c.args.c c.in-1-to-26.if-c-lt27-own.true }
@@ -45,12 +45,12 @@ overflow_add-result-in-27-to-36 c = record { fits = digits-fit c.args.c c.in-27-
 pub returns-in-1-to-26 : goal.returns-in-1-to-26
 returns-in-1-to-26 c =
     let k = c.args.c in
-    counts-is letter 0o01 65 k (letters k c.in_default-1.rest c.in-1-to-26.if-c-lt27-own.true)
+    counts-is letter 0o01 65 k (letters k c.in-1-to-26.in_default-own.rest c.in-1-to-26.if-c-lt27-own.true)
 
 pub returns-in-27-to-36 : goal.returns-in-27-to-36
 returns-in-27-to-36 c =
     let k = c.args.c in
-    counts-is letter 0o33 48 k (digits k c.in_default-1.rest c.if-c-lt27.false c.in-27-to-36.if-c-lt37-own.true)
+    counts-is letter 0o33 48 k (digits k c.in-27-to-36.in_default-own.rest c.in-27-to-36.if-c-lt27-own.false c.in-27-to-36.if-c-lt37-own.true)
 
 pub returns-in_default : goal.returns-in_default
-returns-in_default c = beyond c.args.c c.in_default-1.rest c.in_default.if-c-lt37-own.false c.ranges.c.fits
+returns-in_default c = beyond c.args.c c.in_default.in_default-own.rest c.in_default.if-c-lt37-own.false c.ranges.c.fits

@@ -16,27 +16,19 @@ write_unpacked-requires c =
 pub returns-in-Done : goal.returns-in-Done
 returns-in-Done c =
     let a = c.args in
-    let told = sym c.unpackable-answer.ensures ∙ c.in record { value = (-Done.is in
-    (sym told, c.write_unpacked.ensures ∙ unpack-done a.bytes.now a.out.now _ told)).0; out_after = (-Done.is in
-    (sym told, c.write_unpacked.ensures ∙ unpack-done a.bytes.now a.out.now _ told)).1 }
+    let told = sym c.unpackable-answer.ensures ∙ c.in-Done.is in record { value = sym told; out_after = c.write_unpacked.ensures ∙ unpack-done a.bytes.now a.out.now _ told }
 
 pub returns-in-Length : goal.returns-in-Length
 unfolding space_after
 returns-in-Length c =
-    let told = sym c.unpackable-answer.ensures ∙ c.in record { value = (-Length.is in
-    (sym told, rw told)).0; out_after = (-Length.is in
-    (sym told, rw told)).1 }
+    let told = sym c.unpackable-answer.ensures ∙ c.in-Length.is in record { value = sym told; out_after = rw told }
 
 pub returns-in-Tail : goal.returns-in-Tail
 unfolding space_after
 returns-in-Tail c =
-    let told = sym c.unpackable-answer.ensures ∙ c.in record { value = (-Tail.is in
-    (sym told, rw told)).0; out_after = (-Tail.is in
-    (sym told, rw told)).1 }
+    let told = sym c.unpackable-answer.ensures ∙ c.in-Tail.is in record { value = sym told; out_after = rw told }
 
 pub returns-in-Space : goal.returns-in-Space
 unfolding space_after
 returns-in-Space c =
-    let told = sym c.unpackable-answer.ensures ∙ c.in record { value = (-Space.is in
-    (sym told, rw told)).0; out_after = (-Space.is in
-    (sym told, rw told)).1 }
+    let told = sym c.unpackable-answer.ensures ∙ c.in-Space.is in record { value = sym told; out_after = rw told }

@@ -27,15 +27,8 @@ overflow_mul-result c =
 pub returns-in-Done : goal.returns-in-Done
 returns-in-Done c =
     let a = c.args in
-    let told = sym c.unpackable-answer.ensures ∙ c.in record { value = (-Done.is in
-    let even = c.if-out-ne0.false in (
-      sym (unpack-eights-even a.bytes.now a.out.now even told),
-      c.write_unpacked_eights.ensures ∙ unpack-eights-done a.bytes.now a.out.now _ even told,
-    )).0; out_after = (-Done.is in
-    let even = c.if-out-ne0.false in (
-      sym (unpack-eights-even a.bytes.now a.out.now even told),
-      c.write_unpacked_eights.ensures ∙ unpack-eights-done a.bytes.now a.out.now _ even told,
-    )).1 }
+    let told = sym c.unpackable-answer.ensures ∙ c.in-Done.is in
+    let even = c.if-out-ne0.false in record { value = sym (unpack-eights-even a.bytes.now a.out.now even told); out_after = c.write_unpacked_eights.ensures ∙ unpack-eights-done a.bytes.now a.out.now _ even told }
 
 pub returns-in-Length : goal.returns-in-Length
 unfolding space_after
