@@ -9,10 +9,10 @@ use borrow.Author.Rules.{rules}
 use Rattle.library_yanks_bits.proofs.settle_card.Goals as goal
 
 pub overflow_mul-y : goal.overflow_mul-y
-overflow_mul-y c = omega (arith, c.type_inv.w.given c.args.at)
+overflow_mul-y c = omega (arith, c.type_inv.w c.args.at)
 
 pub overflow_add-y : goal.overflow_add-y
-overflow_add-y c = omega (arith, c.type_inv.w.given c.args.at)
+overflow_add-y c = omega (arith, c.type_inv.w c.args.at)
 
 pub returns-then-x-ge-LAST : goal.returns-then-x-ge-LAST
 returns-then-x-ge-LAST c =

@@ -52,7 +52,7 @@ returns-then-not-within c =
     let g = parts_are c.args.second.now c.parts_of-b.result c.requires.1 c.parts_of-b.ensures in
     λ l m p q.
     apart-answer c.args.first.now c.args.second.now c.args.space.now l m p q _ (name-is c.args.first.now c.args.second.now _ _ f g _ c.shared_name-shared.ensures) c.if-shared-ne0.false _ _
-    (λ n. limit-answer c.args.space.now (merge l m) (sym (c.within_both-within.ensures l m p q) ∙ not-true _ c.if-not-within.true))
+    (λ n. limit-answer c.args.space.now (merge l m) (sym (c.within_both-within.ensures l m p q) ∙ c.if-not-within.true))
 
 pub merge_apart-requires : goal.merge_apart-requires
 merge_apart-requires c =
@@ -66,4 +66,4 @@ returns c =
     let g = parts_are c.args.second.now c.parts_of-b.result c.requires.1 c.parts_of-b.ensures in
     λ l m p q.
     apart-answer c.args.first.now c.args.second.now c.args.space.now l m p q _ (name-is c.args.first.now c.args.second.now _ _ f g _ c.shared_name-shared.ensures) c.if-shared-ne0.false _ _
-    (λ n. c.merge_apart.ensures l m p q n (sym (c.within_both-within.ensures l m p q) ∙ not-false _ c.if-not-within.false))
+    (λ n. c.merge_apart.ensures l m p q n (sym (c.within_both-within.ensures l m p q) ∙ c.if-not-within.false))

@@ -11,10 +11,10 @@ pub returns-then-out-lines : goal.returns-then-out-lines
 returns-then-out-lines c = let a = c.args in put_full a.writes _ a.lines a.calls a.out.now c.if-out-lines.true
 
 pub returns-then-not-writes : goal.returns-then-not-writes
-returns-then-not-writes c = let a = c.args in put-counted a.writes _ a.lines a.calls a.out.now c.if-out-lines.false (not-true _ c.if-not-writes.true)
+returns-then-not-writes c = let a = c.args in put-counted a.writes _ a.lines a.calls a.out.now c.if-out-lines.false c.if-not-writes.true
 
 pub returns : goal.returns
 returns c =
     let a = c.args in
     let named = ap (λ (n : ℕ). line_for a.line.now n a.c.seq) c.word_at-name.ensures in
-    put_written a.writes _ a.lines a.calls a.out.now _ c.if-out-lines.false (not-false _ c.if-not-writes.false) (c.put_line.ensures ∙ named)
+    put_written a.writes _ a.lines a.calls a.out.now _ c.if-out-lines.false c.if-not-writes.false (c.put_line.ensures ∙ named)

@@ -8,7 +8,7 @@ use borrow.Author.Rules.{rules}
 use Rattle.compile_walk.proofs.walk.put_text.Goals as goal
 
 pub returns-then-not-writes : goal.returns-then-not-writes
-returns-then-not-writes c = let a = c.args in put-unseen a.writes a.image.now a.c _ a.lines a.calls a.out.now _ c.put.ensures (not-true _ c.if-not-writes.true)
+returns-then-not-writes c = let a = c.args in put-unseen a.writes a.image.now a.c _ a.lines a.calls a.out.now _ c.put.ensures c.if-not-writes.true
 
 pub slice_bounds-line-end : goal.slice_bounds-line-end
 slice_bounds-line-end c = c.type_inv.line.ensures.0

@@ -14,30 +14,30 @@ returns-then-w-ne0 c =
 
 pub returns-then-not-number_ok : goal.returns-then-not-number_ok
 returns-then-not-number_ok c =
-    let a = c.args in record { value = sym (full-bytes a.directory.now a.least a.w c.if-w-ne0.false ∙ bytes-fail a.directory.now a.least (a.w / 2 ^ 36 % 2 ^ 18) (a.w / 2 ^ 18 % 2 ^ 18 ∷ a.w % 2 ^ 18 ∷ []) (sym c.number_ok.ensures.value ∙ not-true _ c.if-not-number_ok.true)); nonzero = λ e. absurd (never e) }
+    let a = c.args in record { value = sym (full-bytes a.directory.now a.least a.w c.if-w-ne0.false ∙ bytes-fail a.directory.now a.least (a.w / 2 ^ 36 % 2 ^ 18) (a.w / 2 ^ 18 % 2 ^ 18 ∷ a.w % 2 ^ 18 ∷ []) (sym c.number_ok.ensures.value ∙ c.if-not-number_ok.true)); nonzero = λ e. absurd (never e) }
 
 pub number_ok-requires-2 : goal.number_ok-requires-2
-number_ok-requires-2 c = c.number_ok.ensures.nonzero (not-false _ c.if-not-number_ok.false)
+number_ok-requires-2 c = c.number_ok.ensures.nonzero c.if-not-number_ok.false
 
 pub returns-then-not-number_ok-2 : goal.returns-then-not-number_ok-2
 returns-then-not-number_ok-2 c =
     let a = c.args in record {
       value = sym (full-bytes a.directory.now a.least a.w c.if-w-ne0.false
-          ∙ bytes_on a.directory.now a.least (a.w / 2 ^ 36 % 2 ^ 18) (a.w / 2 ^ 18 % 2 ^ 18 ∷ a.w % 2 ^ 18 ∷ []) (sym c.number_ok.ensures.value ∙ not-false _ c.if-not-number_ok.false)
-          ∙ bytes-fail a.directory.now (a.w / 2 ^ 36 % 2 ^ 18 % 2 ^ 16) (a.w / 2 ^ 18 % 2 ^ 18) (a.w % 2 ^ 18 ∷ []) (sym c.number_ok-2.ensures.value ∙ not-true _ c.if-not-number_ok-2.true));
+          ∙ bytes_on a.directory.now a.least (a.w / 2 ^ 36 % 2 ^ 18) (a.w / 2 ^ 18 % 2 ^ 18 ∷ a.w % 2 ^ 18 ∷ []) (sym c.number_ok.ensures.value ∙ c.if-not-number_ok.false)
+          ∙ bytes-fail a.directory.now (a.w / 2 ^ 36 % 2 ^ 18 % 2 ^ 16) (a.w / 2 ^ 18 % 2 ^ 18) (a.w % 2 ^ 18 ∷ []) (sym c.number_ok-2.ensures.value ∙ c.if-not-number_ok-2.true));
       nonzero = λ e. absurd (never e);
     }
 
 pub number_ok-requires-3 : goal.number_ok-requires-3
-number_ok-requires-3 c = c.number_ok-2.ensures.nonzero (not-false _ c.if-not-number_ok-2.false)
+number_ok-requires-3 c = c.number_ok-2.ensures.nonzero c.if-not-number_ok-2.false
 
 pub returns : goal.returns
 returns c =
     let a = c.args in record {
       value = c.number_ok-3.ensures.value
           ∙ sym (full-bytes a.directory.now a.least a.w c.if-w-ne0.false
-          ∙ bytes_on a.directory.now a.least (a.w / 2 ^ 36 % 2 ^ 18) (a.w / 2 ^ 18 % 2 ^ 18 ∷ a.w % 2 ^ 18 ∷ []) (sym c.number_ok.ensures.value ∙ not-false _ c.if-not-number_ok.false)
-          ∙ bytes_on a.directory.now (a.w / 2 ^ 36 % 2 ^ 18 % 2 ^ 16) (a.w / 2 ^ 18 % 2 ^ 18) (a.w % 2 ^ 18 ∷ []) (sym c.number_ok-2.ensures.value ∙ not-false _ c.if-not-number_ok-2.false)
+          ∙ bytes_on a.directory.now a.least (a.w / 2 ^ 36 % 2 ^ 18) (a.w / 2 ^ 18 % 2 ^ 18 ∷ a.w % 2 ^ 18 ∷ []) (sym c.number_ok.ensures.value ∙ c.if-not-number_ok.false)
+          ∙ bytes_on a.directory.now (a.w / 2 ^ 36 % 2 ^ 18 % 2 ^ 16) (a.w / 2 ^ 18 % 2 ^ 18) (a.w % 2 ^ 18 ∷ []) (sym c.number_ok-2.ensures.value ∙ c.if-not-number_ok-2.false)
           ∙ bytes-end a.directory.now (a.w / 2 ^ 18 % 2 ^ 18 % 2 ^ 16) (a.w % 2 ^ 18));
       nonzero = λ e. let z : 0 < a.w % 2 ^ 18 % 2 ^ 16 = c.number_ok-3.ensures.nonzero e in omega arith;
     }

@@ -22,13 +22,13 @@ pub returns-then-not-full_ok : goal.returns-then-not-full_ok
 returns-then-not-full_ok c =
     let l = c.loop-i in
     let a = c.args in
-    sym (l.invariant.1.1 ∙ further-fail a.directory.now l.least a.words.now l.i (omega arith) (sym c.full_ok.ensures.value ∙ not-true _ c.if-not-full_ok.true))
+    sym (l.invariant.1.1 ∙ further-fail a.directory.now l.least a.words.now l.i (omega arith) (sym c.full_ok.ensures.value ∙ c.if-not-full_ok.true))
 
 pub loop-i-preserved : goal.loop-i-preserved
 loop-i-preserved c =
     let l = c.loop-i in
     let a = c.args in
-    let passed : c.full_ok.result ≡ true = not-false _ c.if-not-full_ok.false in
+    let passed : c.full_ok.result ≡ true = c.if-not-full_ok.false in
     (omega arith, (c.full_ok.ensures.nonzero passed, l.invariant.1.1 ∙ further-on a.directory.now l.least a.words.now l.i (omega arith) (sym c.full_ok.ensures.value ∙ passed)))
 
 pub returns : goal.returns

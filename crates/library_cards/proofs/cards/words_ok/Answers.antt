@@ -19,14 +19,14 @@ pub returns-then-not-first_ok : goal.returns-then-not-first_ok
 returns-then-not-first_ok c =
     let a = c.args in
     sym (words-first a.directory.now a.image.now a.at a.k (search rules) (search rules) c.if-k-gt-MOST_HEADS.false c.if-image-at.false
-    (sym c.first_ok.ensures.value ∙ not-true _ c.if-not-first_ok.true))
+    (sym c.first_ok.ensures.value ∙ c.if-not-first_ok.true))
 
 pub history_ok-requires : goal.history_ok-requires
-history_ok-requires c = c.first_ok.ensures.nonzero (not-false _ c.if-not-first_ok.false)
+history_ok-requires c = c.first_ok.ensures.nonzero c.if-not-first_ok.false
 
 pub returns : goal.returns
 returns c =
     let a = c.args in
     c.history_ok.ensures
     ∙ sym (words-further a.directory.now a.image.now a.at a.k (search rules) (search rules) c.if-k-gt-MOST_HEADS.false c.if-image-at.false
-    (sym c.first_ok.ensures.value ∙ not-false _ c.if-not-first_ok.false))
+    (sym c.first_ok.ensures.value ∙ c.if-not-first_ok.false))

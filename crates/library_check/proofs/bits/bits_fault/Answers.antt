@@ -31,7 +31,7 @@ returns-then-not-card_bits_ok c =
     let r = c.see-c.result in
     let sees = c.see-c.ensures.value in
     λ d ss h. sym (ap found (still-here d ws a.from (length ws) (first_failing ok) l.at (first_failing ok) (l.invariant d) c.loop-at-test.true _
-    (λ s w t. failing-here ok s t l.at (shown-bits d ws l.at s w r sees (flagged a.flags.now) ∙ sym c.card_bits_ok.ensures ∙ not-true _ c.if-not-card_bits_ok.true) (shown-place d ws l.at s w r sees)) ss h))
+    (λ s w t. failing-here ok s t l.at (shown-bits d ws l.at s w r sees (flagged a.flags.now) ∙ sym c.card_bits_ok.ensures ∙ c.if-not-card_bits_ok.true) (shown-place d ws l.at s w r sees)) ss h))
 
 pub loop-at-smaller : goal.loop-at-smaller
 loop-at-smaller c = omega (arith, c.see-c.ensures.text_le_next.1.1 c.loop-at-test.true, c.see-c.ensures.text_le_next.0)
@@ -45,7 +45,7 @@ loop-at-preserved c =
     let r = c.see-c.result in
     let sees = c.see-c.ensures.value in
     λ d. still-on d ws a.from (length ws) (first_failing ok) l.at (first_failing ok) (l.invariant d) c.loop-at-test.true r.next (first_failing ok)
-    (λ s w. (shown-next d ws l.at s w r sees, λ t. failing-on ok s t (shown-bits d ws l.at s w r sees (flagged a.flags.now) ∙ sym c.card_bits_ok.ensures ∙ not-false _ c.if-not-card_bits_ok.false)))
+    (λ s w. (shown-next d ws l.at s w r sees, λ t. failing-on ok s t (shown-bits d ws l.at s w r sees (flagged a.flags.now) ∙ sym c.card_bits_ok.ensures ∙ c.if-not-card_bits_ok.false)))
 
 pub returns : goal.returns
 returns c =

@@ -14,11 +14,11 @@ returns-then-not-agree c =
     let a = c.args in
     let yk = flagged a.flags.now in
     let bs = raw_bytes (part a.at a.c.text a.image.now) in
-    sym (ap (λ (b : Bool). b && all (ok_bit yk) bs) (ap (beq a.c.active) (sym c.is_active.ensures) ∙ sym c.agree.ensures ∙ not-true _ c.if-not-agree.true))
+    sym (ap (λ (b : Bool). b && all (ok_bit yk) bs) (ap (beq a.c.active) (sym c.is_active.ensures) ∙ sym c.agree.ensures ∙ c.if-not-agree.true))
 
 pub returns : goal.returns
 returns c =
     let a = c.args in
     let yk = flagged a.flags.now in
     let bs = raw_bytes (part a.at a.c.text a.image.now) in
-    c.yank_bits_ok.ensures ∙ sym (ap (λ (b : Bool). b && all (ok_bit yk) bs) (ap (beq a.c.active) (sym c.is_active.ensures) ∙ sym c.agree.ensures ∙ not-false _ c.if-not-agree.false))
+    c.yank_bits_ok.ensures ∙ sym (ap (λ (b : Bool). b && all (ok_bit yk) bs) (ap (beq a.c.active) (sym c.is_active.ensures) ∙ sym c.agree.ensures ∙ c.if-not-agree.false))

@@ -63,7 +63,7 @@ returns-then-not-is_next c =
     let more = names_more L l.d c.if-list-d.false in
     λ ss h. sym (ap found (still-here D ws from end all l.at now l.invariant c.loop-at-test.true _
     (λ s w t. row_here D (drop l.d L) end s t (shown-begins D ws l.at s w r sees a₁ reads ∙ sym c.begins.ensures ∙ c.if-begins.true)
-    (shown_ok D ws l.at s w r sees a₁ reads x (drop l.d L) (drop (l.d + 1) L) more ∙ sym c.is_next.ensures ∙ not-true _ c.if-not-is_next.true) l.at (shown-place D ws l.at s w r sees)) ss h))
+    (shown_ok D ws l.at s w r sees a₁ reads x (drop l.d L) (drop (l.d + 1) L) more ∙ sym c.is_next.ensures ∙ c.if-not-is_next.true) l.at (shown-place D ws l.at s w r sees)) ss h))
 
 pub loop-at-smaller-else-not-is_next : goal.loop-at-smaller-else-not-is_next
 loop-at-smaller-else-not-is_next c = omega (arith, c.see-c.ensures.text_le_next.1.1 c.loop-at-test.true, c.see-c.ensures.text_le_next.0)
@@ -88,7 +88,7 @@ loop-at-preserved-else-not-is_next c =
     (λ s w. (
       shown-next D ws l.at s w r sees,
       λ t. row-taken D (drop l.d L) end s t (shown-begins D ws l.at s w r sees a₁ reads ∙ sym c.begins.ensures ∙ c.if-begins.true)
-          (shown_ok D ws l.at s w r sees a₁ reads x (drop l.d L) (drop (l.d + 1) L) more ∙ sym c.is_next.ensures ∙ not-false _ c.if-not-is_next.false)
+          (shown_ok D ws l.at s w r sees a₁ reads x (drop l.d L) (drop (l.d + 1) L) more ∙ sym c.is_next.ensures ∙ c.if-not-is_next.false)
           ∙ ap (λ (n : List ℕ). row7 D n t end) (drop-drop 1 l.d L),
     ))
 

@@ -17,7 +17,7 @@ pub loop-word-init : goal.loop-word-init
 loop-word-init c = (search rules, refl)
 
 pub name_ok-requires : goal.name_ok-requires
-name_ok-requires c = record { knows = (c.requires).0; knows_2 = (c.requires).1 }
+name_ok-requires c = record { knows = c.requires.knows; knows_2 = c.requires.knows_2 }
 
 pub returns-then-not-name_ok : goal.returns-then-not-name_ok
 returns-then-not-name_ok c =
@@ -28,7 +28,7 @@ returns-then-not-name_ok c =
     let f = c.args.field.now in
     let p = take_until is_comma (drop l.at f) in
     let s = step-name f l.at c.in-Name.word c.in-Name.next (sym c.next_name.ensures ∙ c.in-Name.is) in
-    sym (l.invariant.1 ∙ all-not is_comma l.at f s.inside p refl q (param-told D a.list.now a.own p _ c.name_ok.result false s.word c.name_ok.ensures (not-true _ c.if-not-name_ok.true)))
+    sym (l.invariant.1 ∙ all-not is_comma l.at f s.inside p refl q (param-told D a.list.now a.own p _ c.name_ok.result false s.word c.name_ok.ensures c.if-not-name_ok.true))
 
 pub loop-word-smaller : goal.loop-word-smaller
 loop-word-smaller c =
@@ -51,7 +51,7 @@ loop-word-preserved c =
     let p = take_until is_comma (drop l.at f) in
     let s = step-name f l.at c.in-Name.word c.in-Name.next (sym c.next_name.ensures ∙ c.in-Name.is) in (
       s.bound,
-      l.invariant.1 ∙ all-next is_comma l.at f s.inside p refl q (param-told D a.list.now a.own p _ c.name_ok.result true s.word c.name_ok.ensures (not-false _ c.if-not-name_ok.false))
+      l.invariant.1 ∙ all-next is_comma l.at f s.inside p refl q (param-told D a.list.now a.own p _ c.name_ok.result true s.word c.name_ok.ensures c.if-not-name_ok.false)
           ∙ ap (λ (n : ℕ). all q (parts_from is_comma n f)) (sym s.next),
     )
 

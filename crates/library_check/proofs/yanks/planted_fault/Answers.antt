@@ -32,10 +32,10 @@ returns-then-not-yank_ok c =
     let r = c.see-c.result in
     let sees = c.see-c.ensures.value in
     λ ss h. sym (ap found (still-here D ws from a.end (first_failing ok) l.at (first_failing ok) l.invariant c.loop-at-test.true _
-    (λ s w t. failing-here ok s t l.at (shown-yank D a.list.now ws l.at s w r sees c.yank_ok.result c.yank_ok.ensures ∙ not-true _ c.if-not-yank_ok.true) (shown-place D ws l.at s w r sees)) ss h))
+    (λ s w t. failing-here ok s t l.at (shown-yank D a.list.now ws l.at s w r sees c.yank_ok.result c.yank_ok.ensures ∙ c.if-not-yank_ok.true) (shown-place D ws l.at s w r sees)) ss h))
 
 pub loop-at-smaller : goal.loop-at-smaller
-loop-at-smaller c = omega (arith, c.see-c.ensures.text_le_next.1.1 (omega (arith, c.loop-at-test.true, c.requires)), c.see-c.ensures.text_le_next.0)
+loop-at-smaller c = omega (arith, c.see-c.ensures.text_le_next.1.1 (omega (arith, c.loop-at-test.true, (c.requires.end_in_bounds, (c.requires.knows, c.requires.knows_2)))), c.see-c.ensures.text_le_next.0)
 
 pub loop-at-preserved : goal.loop-at-preserved
 loop-at-preserved c =
@@ -48,7 +48,7 @@ loop-at-preserved c =
     let r = c.see-c.result in
     let sees = c.see-c.ensures.value in
     still-on D ws from a.end (first_failing ok) l.at (first_failing ok) l.invariant c.loop-at-test.true r.next (first_failing ok)
-    (λ s w. (shown-next D ws l.at s w r sees, λ t. failing-on ok s t (shown-yank D a.list.now ws l.at s w r sees c.yank_ok.result c.yank_ok.ensures ∙ not-false _ c.if-not-yank_ok.false)))
+    (λ s w. (shown-next D ws l.at s w r sees, λ t. failing-on ok s t (shown-yank D a.list.now ws l.at s w r sees c.yank_ok.result c.yank_ok.ensures ∙ c.if-not-yank_ok.false)))
 
 pub returns : goal.returns
 returns c =

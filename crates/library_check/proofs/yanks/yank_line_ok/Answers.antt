@@ -6,7 +6,7 @@ use borrow.Author.Rules.{rules}
 use Rattle.library_check.proofs.yanks.yank_line_ok.Goals as goal
 
 pub names_ok-requires : goal.names_ok-requires
-names_ok-requires c = record { knows = (c.requires).0; knows_2 = (c.requires).1 }
+names_ok-requires c = record { knows = c.requires.knows; knows_2 = c.requires.knows_2 }
 
 pub returns-then-asks_yank : goal.returns-then-asks_yank
 returns-then-asks_yank c =

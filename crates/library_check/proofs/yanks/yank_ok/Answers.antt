@@ -13,7 +13,7 @@ pub slice_bounds-yank_line_ok-end : goal.slice_bounds-yank_line_ok-end
 slice_bounds-yank_line_ok-end c = sym (length-take-le c.type_inv.line.result c.type_inv.line.new.1.1.1.0 c.type_inv.line.ensures.0)
 
 pub yank_line_ok-requires : goal.yank_line_ok-requires
-yank_line_ok-requires c = record { knows = (c.requires).0; knows_2 = (c.requires).1 }
+yank_line_ok-requires c = record { knows = c.requires.knows; knows_2 = c.requires.knows_2 }
 
 pub returns : goal.returns
 returns c =

@@ -12,7 +12,7 @@ use borrow.Author.Rules.{rules}
 use Rattle.library_image_decks.proofs.titles.deck_at.Goals as goal
 
 pub returns-then-not-star_at : goal.returns-then-not-star_at
-returns-then-not-star_at c = let a = c.args in deck-starless a.image.now a.from a.to (sym c.star_at.ensures ∙ not-true _ c.if-not-star_at.true)
+returns-then-not-star_at c = let a = c.args in deck-starless a.image.now a.from a.to (sym c.star_at.ensures ∙ c.if-not-star_at.true)
 
 pub slice_bounds-line-end : goal.slice_bounds-line-end
 slice_bounds-line-end c = c.type_inv.line.ensures.0

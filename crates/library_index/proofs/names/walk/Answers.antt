@@ -20,7 +20,7 @@ pub bounds-ways-way : goal.bounds-ways-way
 bounds-ways-way c = let p = c.requires in omega (arith, p.0, p.1.1, c.loop-at-test.true)
 
 pub overflow_cast-to : goal.overflow_cast-to
-overflow_cast-to c = let l = c.loop-at in record { fits = omega (arith, (c.type_inv.ways.given (way_of l.at l.rest)).fits) }
+overflow_cast-to c = let l = c.loop-at in record { fits = omega (arith, (c.type_inv.ways (way_of l.at l.rest)).fits) }
 
 pub returns-then-to-at : goal.returns-then-to-at
 returns-then-to-at c =

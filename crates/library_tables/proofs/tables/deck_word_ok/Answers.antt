@@ -23,7 +23,7 @@ returns-then-not-stands c =
     let a = c.args in
     let w = get_or a.decks.now a.at 0 in
     sym (deck-unknown a.directory.now (ahead_of a.at a.decks.now) w (some-ahead a.at a.decks.now c.if-at-eq0.false)
-    (sym c.stands.ensures ∙ not-true _ c.if-not-stands.true))
+    (sym c.stands.ensures ∙ c.if-not-stands.true))
 
 pub slice_bounds-stands-end : goal.slice_bounds-stands-end
 slice_bounds-stands-end c =
@@ -43,5 +43,5 @@ returns c =
     let w = get_or a.decks.now a.at 0 in
     c.is_name_word.ensures
     ∙ sym (deck-name a.directory.now (ahead_of a.at a.decks.now) w (some-ahead a.at a.decks.now c.if-at-eq0.false)
-    (sym c.stands.ensures ∙ not-false _ c.if-not-stands.false)
+    (sym c.stands.ensures ∙ c.if-not-stands.false)
     (stands-ahead w a.at a.decks.now (search rules) ∙ sym c.stands-2.ensures ∙ c.if-stands.false))

@@ -18,13 +18,13 @@ pub returns-then-not-deck_word_ok : goal.returns-then-not-deck_word_ok
 returns-then-not-deck_word_ok c =
     let l = c.loop-i in
     let a = c.args in
-    sym (ap found (l.invariant.1 ∙ bad-here (ok_deck_word a.directory.now) a.first a.decks.now l.i (search rules) (sym c.deck_word_ok.ensures ∙ not-true _ c.if-not-deck_word_ok.true)))
+    sym (ap found (l.invariant.1 ∙ bad-here (ok_deck_word a.directory.now) a.first a.decks.now l.i (search rules) (sym c.deck_word_ok.ensures ∙ c.if-not-deck_word_ok.true)))
 
 pub loop-i-preserved : goal.loop-i-preserved
 loop-i-preserved c =
     let l = c.loop-i in
     let a = c.args in
-    (search rules, l.invariant.1 ∙ bad-on (ok_deck_word a.directory.now) a.first a.decks.now l.i (search rules) (sym c.deck_word_ok.ensures ∙ not-false _ c.if-not-deck_word_ok.false))
+    (search rules, l.invariant.1 ∙ bad-on (ok_deck_word a.directory.now) a.first a.decks.now l.i (search rules) (sym c.deck_word_ok.ensures ∙ c.if-not-deck_word_ok.false))
 
 pub returns : goal.returns
 returns c =

@@ -18,13 +18,13 @@ pub returns-then-not-entry_ok : goal.returns-then-not-entry_ok
 returns-then-not-entry_ok c =
     let l = c.loop-i in
     let a = c.args in
-    sym (ap found (l.invariant.1 ∙ bad-here ok_entry 2 a.directory.now l.i (search rules) (sym c.entry_ok.ensures ∙ not-true _ c.if-not-entry_ok.true)))
+    sym (ap found (l.invariant.1 ∙ bad-here ok_entry 2 a.directory.now l.i (search rules) (sym c.entry_ok.ensures ∙ c.if-not-entry_ok.true)))
 
 pub loop-i-preserved : goal.loop-i-preserved
 loop-i-preserved c =
     let l = c.loop-i in
     let a = c.args in
-    (search rules, l.invariant.1 ∙ bad-on ok_entry 2 a.directory.now l.i (search rules) (sym c.entry_ok.ensures ∙ not-false _ c.if-not-entry_ok.false))
+    (search rules, l.invariant.1 ∙ bad-on ok_entry 2 a.directory.now l.i (search rules) (sym c.entry_ok.ensures ∙ c.if-not-entry_ok.false))
 
 pub returns : goal.returns
 returns c =

@@ -10,4 +10,4 @@ pub returns-then-image-le-COUNTS : goal.returns-then-image-le-COUNTS
 returns-then-image-le-COUNTS c = (ap (λ (w : ℕ). w / 2 ^ 18) (sym (get_or-eq_default c.args.image.now 0 (search rules))), omega arith)
 
 pub returns : goal.returns
-returns c = (search rules, omega (arith, c.type_inv.image.given 1))
+returns c = (search rules, omega (arith, c.type_inv.image 1))

@@ -7,7 +7,7 @@ use borrow.Author.Rules.{rules}
 use Rattle.run.proofs.marks.add_byte.Goals as goal
 
 pub overflow_add-w : goal.overflow_add-w
-overflow_add-w c = omega (arith, c.type_inv.w.given (c.args.lo - 1))
+overflow_add-w c = omega (arith, c.type_inv.w (c.args.lo - 1))
 
 pub returns-then-l-eq0-2 : goal.returns-then-l-eq0-2
 returns-then-l-eq0-2 c =
@@ -17,7 +17,7 @@ returns-then-l-eq0-2 c =
     (last-second a.byte (get_or a.w.now (a.lo - 1) 0) c.if-l-eq0.true c.if-l-eq0-2.true)
 
 pub overflow_add-w-then-l-eq0 : goal.overflow_add-w-then-l-eq0
-overflow_add-w-then-l-eq0 c = omega (arith, c.type_inv.w.given (c.args.lo - 1))
+overflow_add-w-then-l-eq0 c = omega (arith, c.type_inv.w (c.args.lo - 1))
 
 pub returns-then-l-eq0 : goal.returns-then-l-eq0
 returns-then-l-eq0 c =

@@ -9,12 +9,12 @@ use Rattle.words_lists.proofs.lists.put_bytes.Goals as goal
 pub returns-then-not-within : goal.returns-then-not-within
 returns-then-not-within c =
     let a = c.args in
-    sym (over_none a.at a.text.now a.out.now (leb-false _ _ (sym c.within.ensures ∙ not-true _ c.if-not-within.true)))
+    sym (over_none a.at a.text.now a.out.now (leb-false _ _ (sym c.within.ensures ∙ c.if-not-within.true)))
 
 pub loop-i-init : goal.loop-i-init
 loop-i-init c =
     let a = c.args in
-    let f : a.at + length a.text.now ≤ length a.out.now = leb-true _ _ (sym c.within.ensures ∙ not-false _ c.if-not-within.false) in
+    let f : a.at + length a.text.now ≤ length a.out.now = leb-true _ _ (sym c.within.ensures ∙ c.if-not-within.false) in
     (f, copied-start a.at a.text.now a.out.now f)
 
 pub loop-i-preserved : goal.loop-i-preserved

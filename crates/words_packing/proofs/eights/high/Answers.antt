@@ -11,5 +11,5 @@ pub returns : goal.returns
 returns c =
     let a = c.args in
     let bs = c.args.bytes.now in
-    let less = below-drop 256 a.at bs (below-known 256 bs (λ k. (c.type_inv.bytes.given k).fits)) in
+    let less = below-drop 256 a.at bs (below-known 256 bs (λ k. (c.type_inv.bytes k).fits)) in
     c.turned.ensures ∙ rw c.low.ensures (turned-number 8 _ ∙ ap (number_of 0) (low-eight (drop a.at bs) less (rw length-drop (omega arith))))

@@ -45,7 +45,7 @@ pub loop-at-preserved : goal.loop-at-preserved
 loop-at-preserved c =
     let l = c.loop-at in
     let bs = c.args.bytes.now in
-    let less = below-known 256 bs (λ k. (c.type_inv.bytes.given k).fits) in
+    let less = below-known 256 bs (λ k. (c.type_inv.bytes k).fits) in
     let next = rw (pair-at bs l.at less (omega arith)) at l.invariant.1.1 in
     let h : l.i ≤ l.i + 16 = omega arith in
     let room : l.i + 16 ≤ length l.out = omega arith in

@@ -30,4 +30,4 @@ fill-requires c =
 
 pub returns : goal.returns
 unfolding text_words
-returns c = record { value = (rw (codes c.before.before.before.before.before.before) at c.fill.ensures).0; text_after = (rw (codes c.before.before.before.before.before.before) at c.fill.ensures).1 }
+returns c = record { value = (rw (codes c.before.before.before.before.before.before) at (c.fill.ensures.value, c.fill.ensures.words_after)).0; text_after = (rw (codes c.before.before.before.before.before.before) at (c.fill.ensures.value, c.fill.ensures.words_after)).1 }

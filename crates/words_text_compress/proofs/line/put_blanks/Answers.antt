@@ -6,13 +6,13 @@ use Rattle.words_text_compress.proofs.line.put_blanks.Goals as goal
 
 pub returns-then-n-le-RUN : goal.returns-then-n-le-RUN
 returns-then-n-le-RUN c =
-    let a = c.args in record { value = (put_as _ _ a.codes.now _ a.at _ (blanks-short a.n c.if-n-le-RUN.true) c.put_run.ensures).0; codes_after = (put_as _ _ a.codes.now _ a.at _ (blanks-short a.n c.if-n-le-RUN.true) c.put_run.ensures).1 }
+    let a = c.args in record { value = (put_as _ _ a.codes.now _ a.at _ (blanks-short a.n c.if-n-le-RUN.true) (c.put_run.ensures.value, c.put_run.ensures.codes_after)).0; codes_after = (put_as _ _ a.codes.now _ a.at _ (blanks-short a.n c.if-n-le-RUN.true) (c.put_run.ensures.value, c.put_run.ensures.codes_after)).1 }
 
 pub returns : goal.returns
 returns c =
     let a = c.args in record {
       value = (put_as _ _ a.codes.now _ a.at _ (blanks-long a.n c.if-n-le-RUN.false (omega arith))
-          (put_then _ _ a.codes.now _ _ a.at _ _ c.put_two-next.ensures c.put_run-2.ensures)).0;
+          (put_then _ _ a.codes.now _ _ a.at _ _ (c.put_two-next.ensures.value, c.put_two-next.ensures.codes_after) (c.put_run-2.ensures.value, c.put_run-2.ensures.codes_after))).0;
       codes_after = (put_as _ _ a.codes.now _ a.at _ (blanks-long a.n c.if-n-le-RUN.false (omega arith))
-          (put_then _ _ a.codes.now _ _ a.at _ _ c.put_two-next.ensures c.put_run-2.ensures)).1;
+          (put_then _ _ a.codes.now _ _ a.at _ _ (c.put_two-next.ensures.value, c.put_two-next.ensures.codes_after) (c.put_run-2.ensures.value, c.put_run-2.ensures.codes_after))).1;
     }

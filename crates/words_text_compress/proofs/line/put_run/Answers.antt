@@ -12,12 +12,12 @@ returns-then-n-eq0 c =
     let n : c.args.n ≡ 0 = c.if-n-eq0.true in record { value = (rw n (omega arith, sym (append-nil _))).0; codes_after = (rw n (omega arith, sym (append-nil _))).1 }
 
 pub returns-then-n-eq1 : goal.returns-then-n-eq1
-returns-then-n-eq1 c = record { value = (rw c.if-n-eq1.true c.put_one.ensures).0; codes_after = (rw c.if-n-eq1.true c.put_one.ensures).1 }
+returns-then-n-eq1 c = record { value = (rw c.if-n-eq1.true (c.put_one.ensures.value, c.put_one.ensures.codes_after)).0; codes_after = (rw c.if-n-eq1.true (c.put_one.ensures.value, c.put_one.ensures.codes_after)).1 }
 
 pub returns-then-n-eq2 : goal.returns-then-n-eq2
-returns-then-n-eq2 c = record { value = (rw c.if-n-eq2.true c.put_two.ensures).0; codes_after = (rw c.if-n-eq2.true c.put_two.ensures).1 }
+returns-then-n-eq2 c = record { value = (rw c.if-n-eq2.true (c.put_two.ensures.value, c.put_two.ensures.codes_after)).0; codes_after = (rw c.if-n-eq2.true (c.put_two.ensures.value, c.put_two.ensures.codes_after)).1 }
 
 pub returns : goal.returns
 returns c =
     let a = c.args in
-    let h : 3 ≤ a.n = omega arith in record { value = (put_as _ _ a.codes.now _ a.at _ (run_long a.n h) c.put_two-2.ensures).0; codes_after = (put_as _ _ a.codes.now _ a.at _ (run_long a.n h) c.put_two-2.ensures).1 }
+    let h : 3 ≤ a.n = omega arith in record { value = (put_as _ _ a.codes.now _ a.at _ (run_long a.n h) (c.put_two-2.ensures.value, c.put_two-2.ensures.codes_after)).0; codes_after = (put_as _ _ a.codes.now _ a.at _ (run_long a.n h) (c.put_two-2.ensures.value, c.put_two-2.ensures.codes_after)).1 }

@@ -5,8 +5,8 @@ use Rattle.words_text_compress.proofs.line.put_sign.Goals as goal
 
 pub returns-then-c-eq0 : goal.returns-then-c-eq0
 returns-then-c-eq0 c =
-    let a = c.args in record { value = (put_as _ _ a.codes.now _ a.at _ (sign_zero a.c c.if-c-eq0.true) c.put_two.ensures).0; codes_after = (put_as _ _ a.codes.now _ a.at _ (sign_zero a.c c.if-c-eq0.true) c.put_two.ensures).1 }
+    let a = c.args in record { value = (put_as _ _ a.codes.now _ a.at _ (sign_zero a.c c.if-c-eq0.true) (c.put_two.ensures.value, c.put_two.ensures.codes_after)).0; codes_after = (put_as _ _ a.codes.now _ a.at _ (sign_zero a.c c.if-c-eq0.true) (c.put_two.ensures.value, c.put_two.ensures.codes_after)).1 }
 
 pub returns-else-c-eq0 : goal.returns-else-c-eq0
 returns-else-c-eq0 c =
-    let a = c.args in record { value = (put_as _ _ a.codes.now _ a.at _ (sign-other a.c c.if-c-eq0.false) c.put_one.ensures).0; codes_after = (put_as _ _ a.codes.now _ a.at _ (sign-other a.c c.if-c-eq0.false) c.put_one.ensures).1 }
+    let a = c.args in record { value = (put_as _ _ a.codes.now _ a.at _ (sign-other a.c c.if-c-eq0.false) (c.put_one.ensures.value, c.put_one.ensures.codes_after)).0; codes_after = (put_as _ _ a.codes.now _ a.at _ (sign-other a.c c.if-c-eq0.false) (c.put_one.ensures.value, c.put_one.ensures.codes_after)).1 }

@@ -7,11 +7,11 @@ use Rattle.words_text_expand.proofs.expanding.expand.Goals as goal
 
 pub returns-then-not-is_text : goal.returns-then-not-is_text
 returns-then-not-is_text c =
-    let a = c.args in record { value = (no_text a.text.now a.line.now (sym c.is_text.ensures ∙ not-true _ c.if-not-is_text.true)).0; line_after = (no_text a.text.now a.line.now (sym c.is_text.ensures ∙ not-true _ c.if-not-is_text.true)).1 }
+    let a = c.args in record { value = (no_text a.text.now a.line.now (sym c.is_text.ensures ∙ c.if-not-is_text.true)).0; line_after = (no_text a.text.now a.line.now (sym c.is_text.ensures ∙ c.if-not-is_text.true)).1 }
 
 pub say-requires : goal.say-requires
-say-requires c = record { text_value = sym c.is_text.ensures ∙ not-false _ c.if-not-is_text.false; line_len = search rules }
+say-requires c = record { text_value = sym c.is_text.ensures ∙ c.if-not-is_text.false; line_len = search rules }
 
 pub returns : goal.returns
 returns c =
-    let a = c.args in record { value = (columns a.text.now a.line.now _ c.say.result (sym c.is_text.ensures ∙ not-false _ c.if-not-is_text.false) c.say.ensures.value c.say.ensures.line_after).0; line_after = (columns a.text.now a.line.now _ c.say.result (sym c.is_text.ensures ∙ not-false _ c.if-not-is_text.false) c.say.ensures.value c.say.ensures.line_after).1 }
+    let a = c.args in record { value = (columns a.text.now a.line.now _ c.say.result (sym c.is_text.ensures ∙ c.if-not-is_text.false) c.say.ensures.value c.say.ensures.line_after).0; line_after = (columns a.text.now a.line.now _ c.say.result (sym c.is_text.ensures ∙ c.if-not-is_text.false) c.say.ensures.value c.say.ensures.line_after).1 }

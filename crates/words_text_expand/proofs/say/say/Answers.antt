@@ -19,7 +19,7 @@ loop-i-preserved c =
     let a = c.args in
     let l = c.loop-i in
     let s = c.say_word-said in
-    text-more a.text.now a.line.now l.line l.ahead l.at l.i l.invariant c.loop-i-test.true s.new.line s.result.ahead s.result.at (search rules) s.ensures
+    text-more a.text.now a.line.now l.line l.ahead l.at l.i l.invariant c.loop-i-test.true s.new.line s.result.ahead s.result.at (search rules) (c.say_word-said.ensures.at_value, (c.say_word-said.ensures.line_after, (c.say_word-said.ensures.line_unchanged, c.say_word-said.ensures.ahead_value)))
 
 pub returns : goal.returns
 returns c =

@@ -22,13 +22,13 @@ returns-then-ahead-eq-ALONE c =
     let p = c.put_column in
     let l = c.letter_in in record {
       at_value = (told a.ahead a.c 0 (letter a.c ∷ []) a.line.now p.new.line a.at p.result (tells-sign a.ahead a.c c.if-ahead-eq-ALONE.true c.if-c-eq0.false)
-          (placed-as (l.result ∷ []) (letter a.c ∷ []) a.line.now p.new.line a.at p.result (λ t. l.ensures t ∷ []) p.ensures)).0;
+          (placed-as (l.result ∷ []) (letter a.c ∷ []) a.line.now p.new.line a.at p.result (λ t. l.ensures t ∷ []) (c.put_column.ensures.value, (c.put_column.ensures.line_after, c.put_column.ensures.line_unchanged)))).0;
       line_after = (told a.ahead a.c 0 (letter a.c ∷ []) a.line.now p.new.line a.at p.result (tells-sign a.ahead a.c c.if-ahead-eq-ALONE.true c.if-c-eq0.false)
-          (placed-as (l.result ∷ []) (letter a.c ∷ []) a.line.now p.new.line a.at p.result (λ t. l.ensures t ∷ []) p.ensures)).1.0;
+          (placed-as (l.result ∷ []) (letter a.c ∷ []) a.line.now p.new.line a.at p.result (λ t. l.ensures t ∷ []) (c.put_column.ensures.value, (c.put_column.ensures.line_after, c.put_column.ensures.line_unchanged)))).1.0;
       line_unchanged = (told a.ahead a.c 0 (letter a.c ∷ []) a.line.now p.new.line a.at p.result (tells-sign a.ahead a.c c.if-ahead-eq-ALONE.true c.if-c-eq0.false)
-          (placed-as (l.result ∷ []) (letter a.c ∷ []) a.line.now p.new.line a.at p.result (λ t. l.ensures t ∷ []) p.ensures)).1.1.0;
+          (placed-as (l.result ∷ []) (letter a.c ∷ []) a.line.now p.new.line a.at p.result (λ t. l.ensures t ∷ []) (c.put_column.ensures.value, (c.put_column.ensures.line_after, c.put_column.ensures.line_unchanged)))).1.1.0;
       ahead_value = (told a.ahead a.c 0 (letter a.c ∷ []) a.line.now p.new.line a.at p.result (tells-sign a.ahead a.c c.if-ahead-eq-ALONE.true c.if-c-eq0.false)
-          (placed-as (l.result ∷ []) (letter a.c ∷ []) a.line.now p.new.line a.at p.result (λ t. l.ensures t ∷ []) p.ensures)).1.1.1;
+          (placed-as (l.result ∷ []) (letter a.c ∷ []) a.line.now p.new.line a.at p.result (λ t. l.ensures t ∷ []) (c.put_column.ensures.value, (c.put_column.ensures.line_after, c.put_column.ensures.line_unchanged)))).1.1.1;
     }
 
 pub returns-then-ahead-ne-SECOND : goal.returns-then-ahead-ne-SECOND
@@ -46,4 +46,4 @@ say_second-requires c =
 pub returns : goal.returns
 returns c =
     let a = c.args in
-    let p = c.say_second in record { at_value = (told a.ahead a.c 0 _ a.line.now p.new.line a.at p.result (tells-pair a.ahead a.c c.if-ahead-ne-SECOND.false c.if-c-eq0-2.false) p.ensures).0; line_after = (told a.ahead a.c 0 _ a.line.now p.new.line a.at p.result (tells-pair a.ahead a.c c.if-ahead-ne-SECOND.false c.if-c-eq0-2.false) p.ensures).1.0; line_unchanged = (told a.ahead a.c 0 _ a.line.now p.new.line a.at p.result (tells-pair a.ahead a.c c.if-ahead-ne-SECOND.false c.if-c-eq0-2.false) p.ensures).1.1.0; ahead_value = (told a.ahead a.c 0 _ a.line.now p.new.line a.at p.result (tells-pair a.ahead a.c c.if-ahead-ne-SECOND.false c.if-c-eq0-2.false) p.ensures).1.1.1 }
+    let p = c.say_second in record { at_value = (told a.ahead a.c 0 _ a.line.now p.new.line a.at p.result (tells-pair a.ahead a.c c.if-ahead-ne-SECOND.false c.if-c-eq0-2.false) (c.say_second.ensures.value, (c.say_second.ensures.line_after, c.say_second.ensures.line_unchanged))).0; line_after = (told a.ahead a.c 0 _ a.line.now p.new.line a.at p.result (tells-pair a.ahead a.c c.if-ahead-ne-SECOND.false c.if-c-eq0-2.false) (c.say_second.ensures.value, (c.say_second.ensures.line_after, c.say_second.ensures.line_unchanged))).1.0; line_unchanged = (told a.ahead a.c 0 _ a.line.now p.new.line a.at p.result (tells-pair a.ahead a.c c.if-ahead-ne-SECOND.false c.if-c-eq0-2.false) (c.say_second.ensures.value, (c.say_second.ensures.line_after, c.say_second.ensures.line_unchanged))).1.1.0; ahead_value = (told a.ahead a.c 0 _ a.line.now p.new.line a.at p.result (tells-pair a.ahead a.c c.if-ahead-ne-SECOND.false c.if-c-eq0-2.false) (c.say_second.ensures.value, (c.say_second.ensures.line_after, c.say_second.ensures.line_unchanged))).1.1.1 }

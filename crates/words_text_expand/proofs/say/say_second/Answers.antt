@@ -11,7 +11,7 @@ put_column-requires c =
 pub returns-then-c-eq1 : goal.returns-then-c-eq1
 returns-then-c-eq1 c =
     let a = c.args in
-    let p = c.put_column in record { value = (placed-as _ _ a.line.now p.new.line a.at p.result (second-colon a.c c.if-c-eq1.true) p.ensures).0; line_after = (placed-as _ _ a.line.now p.new.line a.at p.result (second-colon a.c c.if-c-eq1.true) p.ensures).1.0; line_unchanged = (placed-as _ _ a.line.now p.new.line a.at p.result (second-colon a.c c.if-c-eq1.true) p.ensures).1.1 }
+    let p = c.put_column in record { value = (placed-as _ _ a.line.now p.new.line a.at p.result (second-colon a.c c.if-c-eq1.true) (c.put_column.ensures.value, (c.put_column.ensures.line_after, c.put_column.ensures.line_unchanged))).0; line_after = (placed-as _ _ a.line.now p.new.line a.at p.result (second-colon a.c c.if-c-eq1.true) (c.put_column.ensures.value, (c.put_column.ensures.line_after, c.put_column.ensures.line_unchanged))).1.0; line_unchanged = (placed-as _ _ a.line.now p.new.line a.at p.result (second-colon a.c c.if-c-eq1.true) (c.put_column.ensures.value, (c.put_column.ensures.line_after, c.put_column.ensures.line_unchanged))).1.1 }
 
 pub put_columns-requires : goal.put_columns-requires
 put_columns-requires c =
@@ -21,9 +21,9 @@ pub returns : goal.returns
 returns c =
     let p = c.put_columns in record {
       value = (placed-as _ _ c.args.line.now p.new.line c.args.at p.result (second_run c.args.c c.requires.c_nonzero c.if-c-eq1.false)
-          (placed-run c.args.c 32 c.args.line.now p.new.line c.args.at p.result p.ensures)).0;
+          (placed-run c.args.c 32 c.args.line.now p.new.line c.args.at p.result (c.put_columns.ensures.value, (c.put_columns.ensures.line_after, c.put_columns.ensures.line_unchanged)))).0;
       line_after = (placed-as _ _ c.args.line.now p.new.line c.args.at p.result (second_run c.args.c c.requires.c_nonzero c.if-c-eq1.false)
-          (placed-run c.args.c 32 c.args.line.now p.new.line c.args.at p.result p.ensures)).1.0;
+          (placed-run c.args.c 32 c.args.line.now p.new.line c.args.at p.result (c.put_columns.ensures.value, (c.put_columns.ensures.line_after, c.put_columns.ensures.line_unchanged)))).1.0;
       line_unchanged = (placed-as _ _ c.args.line.now p.new.line c.args.at p.result (second_run c.args.c c.requires.c_nonzero c.if-c-eq1.false)
-          (placed-run c.args.c 32 c.args.line.now p.new.line c.args.at p.result p.ensures)).1.1;
+          (placed-run c.args.c 32 c.args.line.now p.new.line c.args.at p.result (c.put_columns.ensures.value, (c.put_columns.ensures.line_after, c.put_columns.ensures.line_unchanged)))).1.1;
     }

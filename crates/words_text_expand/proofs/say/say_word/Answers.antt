@@ -18,7 +18,7 @@ loop-k-preserved c =
     let a = c.args in
     let l = c.loop-k in
     let s = c.say_code-said in
-    word_more a.word a.ahead a.at a.line.now l.line l.w l.p l.n l.k l.invariant c.loop-k-test.true s.new.line s.result.ahead s.result.at (search rules) s.ensures
+    word_more a.word a.ahead a.at a.line.now l.line l.w l.p l.n l.k l.invariant c.loop-k-test.true s.new.line s.result.ahead s.result.at (search rules) (c.say_code-said.ensures.at_value, (c.say_code-said.ensures.line_after, (c.say_code-said.ensures.line_unchanged, c.say_code-said.ensures.ahead_value)))
 
 pub returns : goal.returns
 returns c =

@@ -17,7 +17,7 @@ pub loop-k-preserved : goal.loop-k-preserved
 loop-k-preserved c =
     let a = c.args in
     let l = c.loop-k in
-    walked_more a.word a.state a.columns l.w l.s l.n l.k l.invariant c.step-s.result c.columns_in-n.result c.loop-k-test.true c.step-s.ensures c.columns_in-n.ensures
+    walked_more a.word a.state a.columns l.w l.s l.n l.k l.invariant c.step-s.result c.columns_in-n.result c.loop-k-test.true (c.step-s.ensures.value, c.step-s.ensures.upper_bound) c.columns_in-n.ensures
 
 pub returns : goal.returns
 returns c =
