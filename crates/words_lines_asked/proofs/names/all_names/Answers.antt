@@ -16,10 +16,7 @@ loop-word-init c = (search rules, refl)
 
 pub returns-then-word-eq0 : goal.returns-then-word-eq0
 returns-then-word-eq0 c =
-    let step : let found = c.word-1.given.0 in
-    Step c.args.field.now c.loop-word.at c.in-Name.word c.in-Name.next = let f = c.args.field.now in
-    let found = c.word-1.given in
-    step-name f c.loop-word.at c.in-Name.word c.in-Name.next (sym c.next_name.ensures ∙ c.in-Name.is) in
+    let step : Step c.args.field.now c.loop-word.at c.in-Name.word c.in-Name.next = step-name c.args.field.now c.loop-word.at c.in-Name.word c.in-Name.next (sym c.next_name.ensures ∙ c.in-Name.is) in
     let l = c.loop-word in
     let f = c.args.field.now in
     let p = take_until is_comma (drop l.at f) in
@@ -28,18 +25,12 @@ returns-then-word-eq0 c =
 
 pub loop-word-smaller : goal.loop-word-smaller
 loop-word-smaller c =
-    let step : let found = c.word-1.given.0 in
-    Step c.args.field.now c.loop-word.at c.in-Name.word c.in-Name.next = let f = c.args.field.now in
-    let found = c.word-1.given in
-    step-name f c.loop-word.at c.in-Name.word c.in-Name.next (sym c.next_name.ensures ∙ c.in-Name.is) in
+    let step : Step c.args.field.now c.loop-word.at c.in-Name.word c.in-Name.next = step-name c.args.field.now c.loop-word.at c.in-Name.word c.in-Name.next (sym c.next_name.ensures ∙ c.in-Name.is) in
     omega (arith, step.falls, step.inside)
 
 pub loop-word-preserved : goal.loop-word-preserved
 loop-word-preserved c =
-    let step : let found = c.word-1.given.0 in
-    Step c.args.field.now c.loop-word.at c.in-Name.word c.in-Name.next = let f = c.args.field.now in
-    let found = c.word-1.given in
-    step-name f c.loop-word.at c.in-Name.word c.in-Name.next (sym c.next_name.ensures ∙ c.in-Name.is) in
+    let step : Step c.args.field.now c.loop-word.at c.in-Name.word c.in-Name.next = step-name c.args.field.now c.loop-word.at c.in-Name.word c.in-Name.next (sym c.next_name.ensures ∙ c.in-Name.is) in
     let l = c.loop-word in
     let f = c.args.field.now in
     let p = take_until is_comma (drop l.at f) in
