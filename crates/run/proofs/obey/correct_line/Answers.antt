@@ -4,6 +4,7 @@ use mathlib.Core.Path.{◌∙◌}
 use Rattle.run.specs.Streamed.{in_arrays}
 use Rattle.run.proofs.Obeying.{outside-obeys, long-obeys, malformed-obeys, last-obeys, insert-obeys, before-obeys, delete-obeys, restore-obeys, yank-obeys}
 use borrow.Author.Rules.{rules}
+use borrow.Enum.Refused.{opened}
 use Rattle.run.proofs.obey.correct_line.Goals as goal
 
 pub insert_step-requires : goal.insert_step-requires
@@ -60,4 +61,4 @@ returns-in-Malformed c =
 
 pub returns-in_default : goal.returns-in_default
 returns-in_default c =
-    let a = c.args in record { sane_after = tt; corrects_line = last-obeys (in_arrays a.w.now a.dir.now a.names.now a.decks.now a.flags.now) a.d a.line.now a.asked c.in_default.in_default-own.keys9 }
+    let a = c.args in record { sane_after = tt; corrects_line = last-obeys (in_arrays a.w.now a.dir.now a.names.now a.decks.now a.flags.now) a.d a.line.now a.asked (opened c.in_default.in_default-own.keys9) }
