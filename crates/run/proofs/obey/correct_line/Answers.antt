@@ -4,7 +4,6 @@ use mathlib.Core.Path.{◌∙◌}
 use Rattle.run.specs.Streamed.{in_arrays}
 use Rattle.run.proofs.Obeying.{outside-obeys, long-obeys, malformed-obeys, last-obeys, insert-obeys, before-obeys, delete-obeys, restore-obeys, yank-obeys}
 use borrow.Author.Rules.{rules}
-use borrow.Enum.Refused.{opened}
 use Rattle.run.proofs.obey.correct_line.Goals as goal
 
 pub insert_step-requires : goal.insert_step-requires
@@ -25,27 +24,27 @@ yank_step-requires c = let pre = c.requires in (pre.0, (pre.1.0, (pre.1.1.0, pre
 pub returns-in-Insert : goal.returns-in-Insert
 returns-in-Insert c =
     let a = c.args in
-    let p = c.insert_step in record { sane_after = p.ensures.sane_after; corrects_line = λ t e. insert-obeys a.w.now a.dir.now a.names.now a.decks.now a.flags.now a.d a.line.now p.result c.in-Insert.r p.last.0 (e ∙ c.in-Insert.is) p.ensures.insert_steps }
+    let p = c.insert_step in record { sane_after = p.ensures.sane_after; corrects_line = λ t e. insert-obeys a.w.now a.dir.now a.names.now a.decks.now a.flags.now a.d a.line.now p.result c.in-Insert.r p.new.w (e ∙ c.in-Insert.is) p.ensures.insert_steps }
 
 pub returns-in-Before : goal.returns-in-Before
 returns-in-Before c =
     let a = c.args in
-    let p = c.before_step in record { sane_after = p.ensures.sane_after; corrects_line = λ t e. before-obeys a.w.now a.dir.now a.names.now a.decks.now a.flags.now a.d a.line.now p.result c.in-Before.r p.last.0 (e ∙ c.in-Before.is) p.ensures.before_steps }
+    let p = c.before_step in record { sane_after = p.ensures.sane_after; corrects_line = λ t e. before-obeys a.w.now a.dir.now a.names.now a.decks.now a.flags.now a.d a.line.now p.result c.in-Before.r p.new.w (e ∙ c.in-Before.is) p.ensures.before_steps }
 
 pub returns-in-Delete : goal.returns-in-Delete
 returns-in-Delete c =
     let a = c.args in
-    let p = c.mark_step in record { sane_after = p.ensures.sane_after; corrects_line = λ t e. delete-obeys a.w.now a.dir.now a.names.now a.decks.now a.flags.now a.d a.line.now p.result c.in-Delete.a c.in-Delete.b p.last.0 p.last.1.1.1.0 (e ∙ c.in-Delete.is) p.ensures.mark_steps }
+    let p = c.mark_step in record { sane_after = p.ensures.sane_after; corrects_line = λ t e. delete-obeys a.w.now a.dir.now a.names.now a.decks.now a.flags.now a.d a.line.now p.result c.in-Delete.a c.in-Delete.b p.new.w p.new.flags (e ∙ c.in-Delete.is) p.ensures.mark_steps }
 
 pub returns-in-Restore : goal.returns-in-Restore
 returns-in-Restore c =
     let a = c.args in
-    let p = c.mark_step-in-Restore in record { sane_after = p.ensures.sane_after; corrects_line = λ t e. restore-obeys a.w.now a.dir.now a.names.now a.decks.now a.flags.now a.d a.line.now p.result c.in-Restore.a c.in-Restore.b p.last.0 p.last.1.1.1.0 (e ∙ c.in-Restore.is) p.ensures.mark_steps }
+    let p = c.mark_step-in-Restore in record { sane_after = p.ensures.sane_after; corrects_line = λ t e. restore-obeys a.w.now a.dir.now a.names.now a.decks.now a.flags.now a.d a.line.now p.result c.in-Restore.a c.in-Restore.b p.new.w p.new.flags (e ∙ c.in-Restore.is) p.ensures.mark_steps }
 
 pub returns-in-Yank : goal.returns-in-Yank
 returns-in-Yank c =
     let a = c.args in
-    let p = c.yank_step in record { sane_after = p.ensures.sane_after; corrects_line = λ t e. yank-obeys a.w.now a.dir.now a.names.now a.decks.now a.flags.now a.d a.line.now p.result p.last.0 p.last.1.1.1.0 (e ∙ c.in-Yank.is) p.ensures.yank_steps }
+    let p = c.yank_step in record { sane_after = p.ensures.sane_after; corrects_line = λ t e. yank-obeys a.w.now a.dir.now a.names.now a.decks.now a.flags.now a.d a.line.now p.result p.new.w p.new.flags (e ∙ c.in-Yank.is) p.ensures.yank_steps }
 
 pub returns-in-Outside : goal.returns-in-Outside
 returns-in-Outside c =
@@ -61,4 +60,4 @@ returns-in-Malformed c =
 
 pub returns-in_default : goal.returns-in_default
 returns-in_default c =
-    let a = c.args in record { sane_after = tt; corrects_line = last-obeys (in_arrays a.w.now a.dir.now a.names.now a.decks.now a.flags.now) a.d a.line.now a.asked (opened c.in_default.in_default-own.keys9) }
+    let a = c.args in record { sane_after = tt; corrects_line = last-obeys (in_arrays a.w.now a.dir.now a.names.now a.decks.now a.flags.now) a.d a.line.now a.asked c.in_default.in_default-own.keys9 }

@@ -46,4 +46,4 @@ returns-in-Deck c =
     let p = c.deck_step in
     let r = c.directive-asked in
     let asked : (common : Bool) × (directive a.line.now ≡ asks_deck common c.in-Deck.word) =
-    ⊎_elim (λ x. (false, sym r.ensures ∙ x.1.given.1 ∙ ap (asks_deck false) (sym x.3))) (λ x. (true, sym r.ensures ∙ x.1.given.1 ∙ ap (asks_deck true) (sym x.3))) c.in-Deck.match-asked-branch in record { sane_after = p.ensures.sane_after; obeys_line = deck-obeys a.w.now a.dir.now a.names.now a.decks.now a.flags.now a.d a.line.now p.result asked.0 c.in-Deck.word p.new.w p.new.dir p.new.names p.new.decks asked.1 p.ensures.deck_steps }
+    ⊎_elim (λ x. (false, sym r.ensures ∙ x)) (λ x. (true, sym r.ensures ∙ x)) c.in-Deck.is in record { sane_after = p.ensures.sane_after; obeys_line = deck-obeys a.w.now a.dir.now a.names.now a.decks.now a.flags.now a.d a.line.now p.result asked.0 c.in-Deck.word p.new.w p.new.dir p.new.names p.new.decks asked.1 p.ensures.deck_steps }
