@@ -1,5 +1,5 @@
 // Standard input, read 64 KiB at a time.
-ghost use Rattle.std.specs.Prelude.{◌≤◌, IfOk};
+ghost use Rattle.std.specs.Prelude.{◌<◌, ◌≤◌, IfOk, IsFalse, OnErr};
 
 use crate::space::{front_bytes, front_words};
 use cases_sums::Head;
@@ -40,9 +40,11 @@ fn more<R: Read>(reader: &mut R, input: &mut [u8; INPUT]) -> io::Result<Feed>
     })
 }
 
-// A feed that has a byte, after a read where there was none left; or one that is over.
+// A feed that has a byte, after a read where there was none left; or one that is over. Only that read can fail.
 pub fn ready<R: Read>(reader: &mut R, input: &mut [u8; INPUT], feed: Feed) -> io::Result<Feed>
-    ensures { IfOk result (λ f. f.end ≤ 65536) }
+    ensures within { IfOk result (λ f. f.end ≤ 65536) }
+    ensures not_over { OnErr result (IsFalse feed.over) }
+    ensures no_byte { OnErr result (feed.at < feed.end → 65536 < feed.end) }
 {
     if feed.over {
         return Ok(Feed {
