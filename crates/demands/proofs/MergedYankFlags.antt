@@ -6,7 +6,6 @@ use native.Mathlib.Decide.{ℕ_discrete}
 use mathlib.Core.Path.{◌≡◌, refl, sym, ap, ap₂, ◌∙◌, subst}
 use mathlib.Core.Bool.{Bool, true, false, ◌&&◌, ◌||◌, not}
 use mathlib.Core.List.{List, [], ◌∷◌, ◌++◌, map}
-use mathlib.Core.Option.{none}
 use lib.Dec.{T, eqb, ltb, ltb→lt}
 use lib.ListN.{length, length-append}
 use Rattle.words.specs.Base.{if◌then◌else◌, any, all, member}
@@ -44,7 +43,7 @@ use Rattle.library.proofs.EntryNames.{not-purged}
 use Rattle.library.proofs.YankNames.{yank-named}
 use Rattle.merge_meaning.proofs.NamesApart.{Apart, not_first}
 use Rattle.merge_meaning.proofs.RaisedStaysSound.{raise_target}
-use Rattle.merge_meaning.proofs.MergedSound.{apart, sound-both}
+use Rattle.merge_meaning.proofs.MergedSound.{sound-both}
 use Rattle.merge_meaning.proofs.MergedFlags.{wanted, wanted-low, wanted-high, rule-low, rule-high, each_number}
 
 -- A SET THAT ONLY YANKS

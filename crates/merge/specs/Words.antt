@@ -4,7 +4,7 @@
 --   a stretch raised         raised_part
 --   the answer               MergeAnswers, WithinBoth, MergesSound, MergesApart
 use Rattle.std.specs.Prelude.{ℕ, ◌+◌, ◌-◌, ◌^◌, ◌≤◌, ◌<◌, ◌≡◌, Bool, true, List, [], ◌∷◌, ◌++◌, length, get_or, take, drop}
-use Rattle.std.proofs.Math.Option.{none, some}
+use Rattle.std.proofs.Math.Option.{none}
 use Rattle.library.specs.Library.{Library}
 use Rattle.library.specs.Image.{within_limits}
 use Rattle.library.specs.Check.{directory_count, deck_count, directory_of, deck_words_of, cards_place, good, check}

@@ -1,6 +1,5 @@
 -- What the check answers decides; an accepted image is compiled as its library.
 use Rattle.compile.proofs.ImageView.{compile-sound, compile-refused}
-use borrow.Author.Rules.{rules}
 use Rattle.compile.proofs.compile.Goals as goal
 
 pub returns-in-Sound : goal.returns-in-Sound

@@ -1,7 +1,6 @@
 -- Both passes follow the walk of the view; the first writes nothing.
 use Rattle.compile.proofs.WalkAsDefined.{table-halted, table_done, table-halted-again}
 use Rattle.compile_walk.specs.TableView.{table_view}
-use borrow.Author.Rules.{rules}
 use Rattle.compile.proofs.compile_chosen.Goals as goal
 
 pub returns-in-Halted : goal.returns-in-Halted

@@ -3,7 +3,6 @@ use Rattle.library_image_decks.proofs.DeckRows.{table_taken}
 use Rattle.compile.proofs.ImageView.{image-answers}
 use lib.Seq.{length-take-le}
 use mathlib.Core.Path.{sym}
-use borrow.Author.Rules.{rules}
 use Rattle.compile.proofs.compile_sound.Goals as goal
 
 pub slice_bounds-compile_table-end : goal.slice_bounds-compile_table-end

@@ -1,7 +1,6 @@
 -- The card is named by the proved function; its answer gives the number and the value.
 use mathlib.Core.Path.{ap, ◌∙◌}
 use Rattle.keeper_card.specs.Naming.{told_number, told_value}
-use borrow.Author.Rules.{rules}
 use Rattle.face.proofs.galdwist_card.Goals as goal
 
 pub returns : goal.returns

@@ -1,7 +1,6 @@
 -- The image is checked by the proved function; its answer gives the number and the place.
 use mathlib.Core.Path.{ap, ◌∙◌}
 use Rattle.library.specs.Check.{checked_number, checked_place}
-use borrow.Author.Rules.{rules}
 use Rattle.face.proofs.galdwist_check.Goals as goal
 
 pub returns : goal.returns

@@ -1,7 +1,6 @@
 -- The file is that of the proved function; its answer gives the number and both values.
 use mathlib.Core.Path.{ap, ◌∙◌}
 use Rattle.compile.specs.Compile.{compiled_number, compiled_first, compiled_second}
-use borrow.Author.Rules.{rules}
 use Rattle.face.proofs.galdwist_compile.Goals as goal
 
 pub returns : goal.returns

@@ -1,7 +1,6 @@
 -- The fresh library is written by the proved function; its answer gives the number and the value.
 use mathlib.Core.Path.{ap, ◌∙◌}
 use Rattle.library_fresh.specs.Fresh.{begun_number, begun_value}
-use borrow.Author.Rules.{rules}
 use Rattle.face.proofs.galdwist_fresh.Goals as goal
 
 pub returns : goal.returns

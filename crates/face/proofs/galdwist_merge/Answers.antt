@@ -1,7 +1,6 @@
 -- The library is that of the proved function; its answer gives the number and both values.
 use mathlib.Core.Path.{ap, ◌∙◌}
 use Rattle.merge_meaning.specs.Merge.{merged_number, merged_value, merged_which}
-use borrow.Author.Rules.{rules}
 use Rattle.face.proofs.galdwist_merge.Goals as goal
 
 pub returns : goal.returns

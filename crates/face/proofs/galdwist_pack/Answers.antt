@@ -1,7 +1,6 @@
 -- Words of eight bytes are packed by the proved function; its answer gives the number and the value.
 use mathlib.Core.Path.{ap, ◌∙◌}
 use Rattle.words_packing.specs.Pack.{packing_number, packing_value}
-use borrow.Author.Rules.{rules}
 use Rattle.face.proofs.galdwist_pack.Goals as goal
 
 pub returns : goal.returns

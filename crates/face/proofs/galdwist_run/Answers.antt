@@ -1,7 +1,6 @@
 -- The run is that of the proved function; its answer gives the number and the value.
 use mathlib.Core.Path.{ap, ◌∙◌}
 use Rattle.run_meaning.specs.Run.{ran_number, ran_value}
-use borrow.Author.Rules.{rules}
 use Rattle.face.proofs.galdwist_run.Goals as goal
 
 pub returns : goal.returns

@@ -1,7 +1,6 @@
 -- Packed bytes are unpacked by the proved function; its answer gives the number and the value.
 use mathlib.Core.Path.{ap, ◌∙◌}
 use Rattle.words_packing.specs.Pack.{packing_number, packing_value}
-use borrow.Author.Rules.{rules}
 use Rattle.face.proofs.galdwist_unpack.Goals as goal
 
 pub returns : goal.returns

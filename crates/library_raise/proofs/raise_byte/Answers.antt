@@ -2,7 +2,6 @@
 use mathlib.Core.Path.{sym}
 use native.Mathlib.Omega.{arith}
 use Rattle.library_raise.proofs.ByteRaised.{raise-unused, raise-rest}
-use borrow.Author.Rules.{rules}
 use Rattle.library_raise.proofs.raise_byte.Goals as goal
 
 pub returns-then-b-eq0 : goal.returns-then-b-eq0

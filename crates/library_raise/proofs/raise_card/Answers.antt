@@ -6,7 +6,6 @@ use lib.ListN.{drop, get_or, set, length-set}
 use Rattle.library.specs.CardWords.{further_len}
 use Rattle.library_raise.specs.Raised.{own_raised}
 use Rattle.library_raise.proofs.CardRaised.{card-one, card-many, long-one, long-many}
-use borrow.Author.Rules.{rules}
 use Rattle.library_raise.proofs.raise_card.Goals as goal
 
 pub returns-then-x-ge-LAST : goal.returns-then-x-ge-LAST

@@ -1,9 +1,8 @@
-use Prim.Native.Nat.{◌-◌, ◌≤◌}
 use mathlib.Core.Path.{◌≡◌, refl, ◌∙◌}
 use native.Mathlib.Omega.{arith}
-use lib.ListN.{length, get_or, length-set}
+use lib.ListN.{get_or, length-set}
 use Rattle.library_raise.specs.Raised.{word_raised}
-use Rattle.library_raise.proofs.FurtherRaised.{Going, going_start, going_more, going_end, going-none}
+use Rattle.library_raise.proofs.FurtherRaised.{going_start, going_more, going_end, going-none}
 use borrow.Author.Rules.{rules}
 use Rattle.library_raise.proofs.raise_history.Goals as goal
 

@@ -1,11 +1,8 @@
 -- Each word is raised; the history ends at the word with bit 59.
 use Prim.Native.Nat.{◌-◌, ◌≤◌}
-use mathlib.Core.Path.{◌≡◌, refl, ◌∙◌}
-use native.Mathlib.Omega.{arith}
-use lib.ListN.{length, get_or, length-set}
-use Rattle.library_raise.specs.Raised.{word_raised}
-use Rattle.library_raise.proofs.FurtherRaised.{Going, going_start, going_more, going_end, going-none}
-use borrow.Author.Rules.{rules}
+use mathlib.Core.Path.{◌≡◌}
+use lib.ListN.{length}
+use Rattle.library_raise.proofs.FurtherRaised.{Going}
 use Rattle.library_raise.proofs.raise_history.Given as goal
 
 abbrev pub invariant-loop-i : goal.invariant-loop-i

@@ -1,10 +1,7 @@
-use Prim.Native.Nat.{◌-◌}
-use mathlib.Core.Path.{◌≡◌, refl, ◌∙◌}
-use lib.ListN.{length}
+use mathlib.Core.Path.{refl, ◌∙◌}
 use Rattle.library_raise.specs.Raised.{card_raised}
 use Rattle.library_raise.proofs.CardRaised.{none-raised}
-use Rattle.library_yanks_bits.proofs.Cards.{Ahead, ahead-start, ahead_more, ahead-end}
-use borrow.Author.Rules.{rules}
+use Rattle.library_yanks_bits.proofs.Cards.{ahead-start, ahead_more, ahead-end}
 use Rattle.library_raise.proofs.raise_numbers.Goals as goal
 
 pub loop-at-init : goal.loop-at-init

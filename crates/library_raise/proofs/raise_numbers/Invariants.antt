@@ -1,11 +1,9 @@
 -- Card after card is raised, up to the last word.
 use Prim.Native.Nat.{◌-◌}
-use mathlib.Core.Path.{◌≡◌, refl, ◌∙◌}
+use mathlib.Core.Path.{◌≡◌}
 use lib.ListN.{length}
 use Rattle.library_raise.specs.Raised.{card_raised}
-use Rattle.library_raise.proofs.CardRaised.{none-raised}
-use Rattle.library_yanks_bits.proofs.Cards.{Ahead, ahead-start, ahead_more, ahead-end}
-use borrow.Author.Rules.{rules}
+use Rattle.library_yanks_bits.proofs.Cards.{Ahead}
 use Rattle.library_raise.proofs.raise_numbers.Given as goal
 
 abbrev pub invariant-loop-at : goal.invariant-loop-at

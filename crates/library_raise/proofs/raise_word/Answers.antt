@@ -1,7 +1,6 @@
 -- A further history word is its three bytes, each raised by itself.
 use Prim.Native.Nat.{◌+◌, ◌*◌, ◌/◌, ◌^◌}
 use Rattle.library_raise.specs.Raised.{word_raised}
-use borrow.Author.Rules.{rules}
 use Rattle.library_raise.proofs.raise_word.Goals as goal
 
 pub returns : goal.returns

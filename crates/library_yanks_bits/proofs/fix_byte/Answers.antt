@@ -2,7 +2,6 @@
 use mathlib.Core.Path.{sym}
 use native.Mathlib.Omega.{arith}
 use Rattle.library_yanks_bits.proofs.Fixing.{fix-yes, fix-no, fix-out}
-use borrow.Author.Rules.{rules}
 use Rattle.library_yanks_bits.proofs.fix_byte.Goals as goal
 
 pub returns-then-f-n : goal.returns-then-f-n

@@ -1,7 +1,6 @@
 -- A further history word is its three bytes, each settled by itself.
 use Prim.Native.Nat.{◌+◌, ◌*◌, ◌/◌, ◌^◌}
 use Rattle.library_yanks_bits.specs.SettledBits.{fix_word}
-use borrow.Author.Rules.{rules}
 use Rattle.library_yanks_bits.proofs.fix_word.Goals as goal
 
 pub returns : goal.returns

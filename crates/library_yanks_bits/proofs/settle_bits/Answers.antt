@@ -1,9 +1,6 @@
-use Prim.Native.Nat.{◌-◌}
-use mathlib.Core.Path.{◌≡◌, refl, ◌∙◌}
-use lib.ListN.{length}
+use mathlib.Core.Path.{refl, ◌∙◌}
 use Rattle.library_yanks_bits.specs.SettledBits.{flagged, card_bits}
-use Rattle.library_yanks_bits.proofs.Cards.{Ahead, ahead-start, ahead_more, ahead-end, none-bits}
-use borrow.Author.Rules.{rules}
+use Rattle.library_yanks_bits.proofs.Cards.{ahead-start, ahead_more, ahead-end, none-bits}
 use Rattle.library_yanks_bits.proofs.settle_bits.Goals as goal
 
 pub loop-at-init : goal.loop-at-init

@@ -1,10 +1,9 @@
 -- Card after card is settled, up to the last word.
 use Prim.Native.Nat.{◌-◌}
-use mathlib.Core.Path.{◌≡◌, refl, ◌∙◌}
+use mathlib.Core.Path.{◌≡◌}
 use lib.ListN.{length}
 use Rattle.library_yanks_bits.specs.SettledBits.{flagged, card_bits}
-use Rattle.library_yanks_bits.proofs.Cards.{Ahead, ahead-start, ahead_more, ahead-end, none-bits}
-use borrow.Author.Rules.{rules}
+use Rattle.library_yanks_bits.proofs.Cards.{Ahead}
 use Rattle.library_yanks_bits.proofs.settle_bits.Given as goal
 
 abbrev pub invariant-loop-at : goal.invariant-loop-at

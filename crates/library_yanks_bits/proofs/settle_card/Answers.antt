@@ -5,7 +5,6 @@ use mathlib.Core.Path.{◌≡◌, ap, ◌∙◌}
 use lib.ListN.{drop, get_or}
 use Rattle.library_yanks_bits.specs.SettledBits.{flagged, say_byte, own_bits, own_says, with_active, further_says}
 use Rattle.library_yanks_bits.proofs.Cards.{card-one, card-many, long-one, long-many}
-use borrow.Author.Rules.{rules}
 use Rattle.library_yanks_bits.proofs.settle_card.Goals as goal
 
 pub overflow_mul-y : goal.overflow_mul-y

@@ -1,9 +1,8 @@
-use Prim.Native.Nat.{◌-◌, ◌≤◌, ◌<◌}
 use mathlib.Core.Path.{◌≡◌, refl, ◌∙◌}
 use native.Mathlib.Omega.{arith}
-use lib.ListN.{length, get_or, length-set}
+use lib.ListN.{get_or, length-set}
 use Rattle.library_yanks_bits.specs.SettledBits.{flagged, fix_word}
-use Rattle.library_yanks_bits.proofs.Histories.{Telling, tell-start, tell-more, tell-end, tell_none}
+use Rattle.library_yanks_bits.proofs.Histories.{tell-start, tell-more, tell-end, tell_none}
 use borrow.Author.Rules.{rules}
 use Rattle.library_yanks_bits.proofs.settle_history.Goals as goal
 

@@ -1,11 +1,9 @@
 -- Each word is settled and speaks after those before it; the history ends at the word with bit 59.
 use Prim.Native.Nat.{◌-◌, ◌≤◌, ◌<◌}
-use mathlib.Core.Path.{◌≡◌, refl, ◌∙◌}
-use native.Mathlib.Omega.{arith}
-use lib.ListN.{length, get_or, length-set}
-use Rattle.library_yanks_bits.specs.SettledBits.{flagged, fix_word}
-use Rattle.library_yanks_bits.proofs.Histories.{Telling, tell-start, tell-more, tell-end, tell_none}
-use borrow.Author.Rules.{rules}
+use mathlib.Core.Path.{◌≡◌}
+use lib.ListN.{length}
+use Rattle.library_yanks_bits.specs.SettledBits.{flagged}
+use Rattle.library_yanks_bits.proofs.Histories.{Telling}
 use Rattle.library_yanks_bits.proofs.settle_history.Given as goal
 
 abbrev pub invariant-loop-i : goal.invariant-loop-i

@@ -2,7 +2,6 @@
 use mathlib.Core.Path.{sym, ◌∙◌}
 use Rattle.library.proofs.ImageParts.{accepted-is, readable}
 use Rattle.merge.proofs.MergeAnswer.{first-answer, second-answer, sound-answer}
-use borrow.Author.Rules.{rules}
 use Rattle.merge.proofs.merge.Goals as goal
 
 pub merge_sound-requires : goal.merge_sound-requires

@@ -1,6 +1,5 @@
 -- The words of both decide 32; what is written is the image of the merged library.
 use Rattle.merge.proofs.MergeAnswer.{space-answer, done-answer}
-use borrow.Author.Rules.{rules}
 use Rattle.merge.proofs.merge_apart.Goals as goal
 
 pub returns-then-space-words : goal.returns-then-space-words

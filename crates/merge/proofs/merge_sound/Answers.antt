@@ -4,7 +4,6 @@ use native.Mathlib.Omega.{arith}
 use mathlib.Core.Path.{◌≡◌, sym, ap, ap₂, ◌∙◌, subst}
 use mathlib.Core.List.{List}
 use lib.ListN.{take, drop}
-use borrow.Author.Tests.{not-true, not-false}
 use Rattle.words.specs.Base.{place_from}
 use Rattle.library.specs.Check.{directory_of}
 use Rattle.library.specs.Readable.{Readable}
@@ -16,7 +15,6 @@ use Rattle.merge.specs.Words.{places_of, Laid}
 use Rattle.merge.proofs.MergedWords.{parted}
 use Rattle.merge.proofs.MergedLayout.{directory-part}
 use Rattle.merge.proofs.MergeAnswer.{limit-answer, shared-answer, apart-answer}
-use borrow.Author.Rules.{rules}
 use Rattle.merge.proofs.merge_sound.Goals as goal
 
 -- the places of an image that was read, and its directory as a part of it

@@ -2,7 +2,6 @@
 use Prim.Native.Nat.{◌+◌}
 use mathlib.Core.Path.{ap₂}
 use Rattle.merge.proofs.MergeAnswer.{within}
-use borrow.Author.Rules.{rules}
 use Rattle.merge.proofs.within_both.Goals as goal
 
 pub returns : goal.returns

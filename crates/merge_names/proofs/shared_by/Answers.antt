@@ -1,13 +1,12 @@
-use Prim.Native.Nat.{ℕ, ◌+◌, ◌-◌, ◌≤◌}
+use Prim.Native.Nat.{ℕ, ◌+◌}
 use native.Mathlib.Omega.{arith}
 use mathlib.Core.Path.{◌≡◌, refl, sym, ap, ◌∙◌}
-use lib.ListN.{length, get_or, drop}
+use lib.ListN.{get_or, drop}
 use Rattle.words.specs.Base.{place_from}
 use Rattle.library.specs.Library.{has_name}
 use Rattle.library.proofs.FirstPlace.{place_here, place-on, place_none}
 use Rattle.merge_names.specs.Common.{or_none}
 use Rattle.merge_names.proofs.CommonName.{shared-none, shared-some}
-use borrow.Author.Rules.{rules}
 use Rattle.merge_names.proofs.shared_by.Goals as goal
 
 pub loop-i-init : goal.loop-i-init

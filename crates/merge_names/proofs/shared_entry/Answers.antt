@@ -1,6 +1,5 @@
 -- A purged entry is no name; any other is sought by the tree.
 use Rattle.merge_names.proofs.CommonName.{entry-purged, entry_named, bounded}
-use borrow.Author.Rules.{rules}
 use Rattle.merge_names.proofs.shared_entry.Goals as goal
 
 pub returns-then-w-eq-PURGED : goal.returns-then-w-eq-PURGED

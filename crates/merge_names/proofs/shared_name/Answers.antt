@@ -2,7 +2,6 @@
 use mathlib.Core.Path.{sym, subst}
 use Rattle.library_index.specs.Names.{Knows}
 use Rattle.library_index.proofs.NameTree.{planted-entry}
-use borrow.Author.Rules.{rules}
 use Rattle.merge_names.proofs.shared_name.Goals as goal
 
 pub shared_by-requires : goal.shared_by-requires

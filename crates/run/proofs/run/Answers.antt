@@ -2,7 +2,6 @@
 use mathlib.Core.Path.{sym, ◌∙◌}
 use Rattle.library.proofs.ImageParts.{accepted-is, readable}
 use Rattle.run.proofs.Running.{run-refused, run-accepted}
-use borrow.Author.Rules.{rules}
 use Rattle.run.proofs.run.Goals as goal
 
 pub run_stream-requires : goal.run_stream-requires

@@ -1,7 +1,6 @@
 -- A place past any stream stays, and up to there the sum fits a number.
 use borrow.Author.Tests.{lt-ltb, le-ltb}
 use Rattle.words_lines.specs.FirstLine.{line_after}
-use borrow.Author.Rules.{rules}
 use Rattle.run_meaning.proofs.line_after.Goals as goal
 
 pub returns-then-at-gt-FARTHEST : goal.returns-then-at-gt-FARTHEST

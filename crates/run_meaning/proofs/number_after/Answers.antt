@@ -1,7 +1,6 @@
 -- The largest number stays, and up to there one more fits.
 use borrow.Author.Tests.{lt-ltb, le-ltb}
 use Rattle.run_meaning.specs.Numbering.{number_after}
-use borrow.Author.Rules.{rules}
 use Rattle.run_meaning.proofs.number_after.Goals as goal
 
 pub returns-then-seq-gt-LARGEST : goal.returns-then-seq-gt-LARGEST

@@ -1,5 +1,4 @@
 -- The byte stands where the decimals end. Assumes nothing.
-use borrow.Author.Rules.{rules}
 use native.Mathlib.Omega.{arith}
 use Rattle.compile_file.proofs.RefusalLine.{part-put}
 use Rattle.compile_file.proofs.line.put_number.Goals as goal

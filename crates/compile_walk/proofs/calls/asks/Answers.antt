@@ -1,7 +1,6 @@
 -- A CALL asks for the deck that the table has under its name.
 use Rattle.compile_walk.specs.Steps.{open_at, asked_of}
 use mathlib.Core.Path.{sym, ap, ◌∙◌}
-use borrow.Author.Rules.{rules}
 use Rattle.compile_walk.proofs.calls.asks.Goals as goal
 
 pub returns-in-Not : goal.returns-in-Not

@@ -1,9 +1,6 @@
 use Rattle.compile_walk.proofs.NameRow.{find-reserved, find-other, row_here, row_on, row-end}
-use Rattle.compile_walk.specs.Steps.{row_in, find_row}
-use lib.ListN.{length, drop}
 use borrow.Author.Tests.{eq-eqb, ne_eqb}
-use mathlib.Core.Path.{◌≡◌, sym, ◌∙◌}
-use Prim.Native.Nat.{◌-◌, ◌≤◌}
+use mathlib.Core.Path.{sym, ◌∙◌}
 use borrow.Author.Rules.{rules}
 use Rattle.compile_walk.proofs.calls.find_row.Goals as goal
 

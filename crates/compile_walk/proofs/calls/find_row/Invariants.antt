@@ -1,11 +1,8 @@
 -- Up to each row none has the name, so the search of the table is that of the rest.
-use Rattle.compile_walk.proofs.NameRow.{find-reserved, find-other, row_here, row_on, row-end}
 use Rattle.compile_walk.specs.Steps.{row_in, find_row}
 use lib.ListN.{length, drop}
-use borrow.Author.Tests.{eq-eqb, ne_eqb}
-use mathlib.Core.Path.{◌≡◌, sym, ◌∙◌}
+use mathlib.Core.Path.{◌≡◌}
 use Prim.Native.Nat.{◌-◌, ◌≤◌}
-use borrow.Author.Rules.{rules}
 use Rattle.compile_walk.proofs.calls.find_row.Given as goal
 
 abbrev pub invariant-loop-i : goal.invariant-loop-i

@@ -1,6 +1,5 @@
 -- Each place by its case, then the levels, then the calls.
 use borrow.Author.Tests.{eq-eqb, ne_eqb, lt-ltb, le-ltb}
-use borrow.Author.Rules.{rules}
 use Rattle.compile_walk.proofs.calls.open_at.Goals as goal
 
 pub returns-then-depth-eq0 : goal.returns-then-depth-eq0

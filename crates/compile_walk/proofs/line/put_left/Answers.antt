@@ -1,9 +1,9 @@
-use Rattle.compile_walk.proofs.LineColumns.{least-short, Begun, left-copied, left-blank, left-own, left-all}
+use Rattle.compile_walk.proofs.LineColumns.{least-short, left-copied, left-blank, left-own, left-all}
 use Rattle.words.specs.Names.{left_justified}
 use lib.ListN.{length}
 use native.Mathlib.Omega.{arith}
 use mathlib.Core.Path.{refl, ap, ◌∙◌}
-use Prim.Native.Nat.{ℕ, ◌-◌, ◌≤◌}
+use Prim.Native.Nat.{ℕ}
 use borrow.Author.Rules.{rules}
 use Rattle.compile_walk.proofs.line.put_left.Goals as goal
 

@@ -1,11 +1,7 @@
 -- Each turn writes one column more of the justified text: of the text itself, then blanks.
-use Rattle.compile_walk.proofs.LineColumns.{least-short, Begun, left-copied, left-blank, left-own, left-all}
-use Rattle.words.specs.Names.{left_justified}
+use Rattle.compile_walk.proofs.LineColumns.{Begun}
 use lib.ListN.{length}
-use native.Mathlib.Omega.{arith}
-use mathlib.Core.Path.{refl, ap, ◌∙◌}
-use Prim.Native.Nat.{ℕ, ◌-◌, ◌≤◌}
-use borrow.Author.Rules.{rules}
+use Prim.Native.Nat.{◌-◌, ◌≤◌}
 use Rattle.compile_walk.proofs.line.put_left.Given as goal
 
 abbrev pub invariant-loop-i : goal.invariant-loop-i

@@ -2,7 +2,6 @@
 use Rattle.compile_walk.proofs.LineColumns.{put_whole, name-long}
 use lib.ListN.{set, length-set}
 use native.Mathlib.Omega.{arith}
-use borrow.Author.Rules.{rules}
 use Rattle.compile_walk.proofs.line.put_line.Goals as goal
 
 pub slice_bounds-put_left-end-2 : goal.slice_bounds-put_left-end-2

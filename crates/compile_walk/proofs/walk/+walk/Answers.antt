@@ -4,7 +4,7 @@ use mathlib.Core.Path.{◌≡◌, refl, sym, ap, ◌∙◌}
 use mathlib.Core.List.{List}
 use Prim.Native.Nat.{ℕ}
 use Rattle.library_image.proofs.CardPlaces.{line_taken}
-use Rattle.compile_walk.specs.TableView.{shown_of, shown_in, table_view}
+use Rattle.compile_walk.specs.TableView.{shown_of, table_view}
 use Rattle.compile_walk.specs.Steps.{walk_state, visit_of}
 use Rattle.compile_walk.specs.declared.Walked.{Walked}
 use Rattle.compile_walk.proofs.CardWalk.{visit-passed, visit-text, visit-stopped, visit-opened, visit-starless, opened_some, run_past, run_end, run_on, run-halt}

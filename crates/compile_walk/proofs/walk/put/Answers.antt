@@ -3,8 +3,6 @@ use Prim.Native.Nat.{ℕ}
 use mathlib.Core.Path.{ap, ◌∙◌}
 use Rattle.compile_walk.specs.Lines.{line_for}
 use Rattle.compile_walk.proofs.LineRoom.{put_full, put-counted, put_written}
-use borrow.Author.Tests.{not-true, not-false}
-use borrow.Author.Rules.{rules}
 use Rattle.compile_walk.proofs.walk.put.Goals as goal
 
 pub returns-then-out-lines : goal.returns-then-out-lines

@@ -1,10 +1,6 @@
 -- The line is that of the card, or is not written.
-use mathlib.Core.Path.{sym}
-use lib.Seq.{length-take-le}
 use Rattle.library_image.proofs.CardPlaces.{line_taken}
 use Rattle.compile_walk.proofs.LineRoom.{put-unseen, put-seen}
-use borrow.Author.Tests.{not-true}
-use borrow.Author.Rules.{rules}
 use Rattle.compile_walk.proofs.walk.put_text.Goals as goal
 
 pub returns-then-not-writes : goal.returns-then-not-writes

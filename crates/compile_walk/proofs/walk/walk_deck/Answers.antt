@@ -1,7 +1,6 @@
 -- A common deck is passed over, any other is walked with all levels left.
 use Rattle.compile_walk.proofs.TableWalk.{deck-common, deck-normal}
 use Rattle.compile_walk.specs.TableView.{table_view}
-use borrow.Author.Rules.{rules}
 use Rattle.compile_walk.proofs.walk.walk_deck.Goals as goal
 
 pub returns-then-chosen-row-eq-COMMON : goal.returns-then-chosen-row-eq-COMMON

@@ -1,10 +1,7 @@
 use Rattle.compile_walk.proofs.TableWalk.{decks-end, decks-on, decks-halt}
-use Rattle.compile_walk.specs.Steps.{decks_of}
 use Rattle.compile_walk.specs.TableView.{table_view}
-use lib.ListN.{length, drop}
 use native.Mathlib.Omega.{arith}
-use mathlib.Core.Path.{◌≡◌, refl, sym, ◌∙◌}
-use Prim.Native.Nat.{◌-◌, ◌≤◌}
+use mathlib.Core.Path.{refl, sym, ◌∙◌}
 use borrow.Author.Rules.{rules}
 use Rattle.compile_walk.proofs.walk.walk_decks.Goals as goal
 

@@ -1,12 +1,9 @@
 -- The rest of the table from each row gives the same.
-use Rattle.compile_walk.proofs.TableWalk.{decks-end, decks-on, decks-halt}
 use Rattle.compile_walk.specs.Steps.{decks_of}
 use Rattle.compile_walk.specs.TableView.{table_view}
 use lib.ListN.{length, drop}
-use native.Mathlib.Omega.{arith}
-use mathlib.Core.Path.{◌≡◌, refl, sym, ◌∙◌}
+use mathlib.Core.Path.{◌≡◌}
 use Prim.Native.Nat.{◌-◌, ◌≤◌}
-use borrow.Author.Rules.{rules}
 use Rattle.compile_walk.proofs.walk.walk_decks.Given as goal
 
 abbrev pub invariant-loop-row : goal.invariant-loop-row

@@ -1,7 +1,5 @@
-use Prim.Native.Nat.{◌≤◌}
 use native.Mathlib.Omega.{arith}
-use borrow.Author.Rules.{rules}
-use Rattle.keeper_card.proofs.DigitCount.{Counting, count-start, count-more, count-end}
+use Rattle.keeper_card.proofs.DigitCount.{count-start, count-more, count-end}
 use Rattle.keeper_card.proofs.bytes.digits.Goals as goal
 
 pub loop-m-init : goal.loop-m-init

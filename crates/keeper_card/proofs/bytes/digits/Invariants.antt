@@ -1,8 +1,6 @@
 -- Each turn takes one digit off the number and counts it. Assumes nothing.
 use Prim.Native.Nat.{◌≤◌}
-use native.Mathlib.Omega.{arith}
-use borrow.Author.Rules.{rules}
-use Rattle.keeper_card.proofs.DigitCount.{Counting, count-start, count-more, count-end}
+use Rattle.keeper_card.proofs.DigitCount.{Counting}
 use Rattle.keeper_card.proofs.bytes.digits.Given as goal
 
 abbrev pub invariant-loop-m : goal.invariant-loop-m

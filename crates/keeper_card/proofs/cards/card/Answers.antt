@@ -1,6 +1,5 @@
 -- What the check answers decides; a card of an accepted image is named by its library. Assumes nothing.
 use Rattle.keeper_card.proofs.AcceptedNames.{naming-sound, naming-refused}
-use borrow.Author.Rules.{rules}
 use Rattle.keeper_card.proofs.cards.card.Goals as goal
 
 pub returns-in-Sound : goal.returns-in-Sound

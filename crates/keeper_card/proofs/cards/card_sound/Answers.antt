@@ -4,7 +4,6 @@ use mathlib.Core.Path.{sym}
 use lib.Seq.{length-take-le}
 use Rattle.keeper_card.proofs.PointedName.{name-taken, name-inside}
 use Rattle.keeper_card.proofs.AcceptedNames.{card-named}
-use borrow.Author.Rules.{rules}
 use Rattle.keeper_card.proofs.cards.card_sound.Goals as goal
 
 pub slice_bounds-name-end : goal.slice_bounds-name-end

@@ -4,7 +4,6 @@ use lib.ListN.{length, length-set}
 use mathlib.Core.Path.{◌∙◌}
 use Rattle.words_lists.proofs.OverLists.{over-put}
 use Rattle.keeper_card.proofs.PointedName.{too_short, put-pointed, pointed-answers}
-use borrow.Author.Rules.{rules}
 use Rattle.keeper_card.proofs.cards.put_card.Goals as goal
 
 pub returns-then-out-end : goal.returns-then-out-end

@@ -1,6 +1,5 @@
 -- A number past the directory has no word; any other's stands after the two words of the header.
 use Rattle.keeper_card.proofs.EntryOrZero.{word_none, word-past, word_in}
-use borrow.Author.Rules.{rules}
 use Rattle.keeper_card.proofs.entry_words.entry_word.Goals as goal
 
 pub returns-then-n-eq0 : goal.returns-then-n-eq0

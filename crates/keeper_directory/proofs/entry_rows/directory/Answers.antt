@@ -1,6 +1,5 @@
 -- What the check answers decides; the rows of an accepted image are its library's. Assumes nothing.
 use Rattle.keeper_directory.proofs.CheckDecides.{listing-sound, listing-refused, accepted-sizes}
-use borrow.Author.Rules.{rules}
 use Rattle.keeper_directory.proofs.entry_rows.directory.Goals as goal
 
 pub directory_sound-requires : goal.directory_sound-requires

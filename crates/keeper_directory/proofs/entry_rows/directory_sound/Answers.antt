@@ -5,7 +5,6 @@ use lib.ListN.{length}
 use Rattle.library_tables.proofs.TableWords.{entries-are}
 use Rattle.keeper_card.proofs.AcceptedNames.{directory-long}
 use Rattle.keeper_directory.proofs.LibraryRows.{listed-short, listed-all}
-use borrow.Author.Rules.{rules}
 use Rattle.keeper_directory.proofs.entry_rows.directory_sound.Goals as goal
 
 pub returns-then-rows-n : goal.returns-then-rows-n

@@ -2,7 +2,6 @@
 use Prim.Native.Nat.{ℕ}
 use lib.ListN.{replicate, length-replicate, get_or-replicate}
 use Rattle.keeper_directory.proofs.LibraryRows.{kinds-are, flags-are, rows_are}
-use borrow.Author.Rules.{rules}
 use Rattle.keeper_directory.proofs.entry_rows.put_directory.Goals as goal
 
 pub returns : goal.returns

@@ -4,7 +4,6 @@ use Prim.Native.Nat.{ℕ}
 use lib.ListN.{length}
 use Rattle.library_yanks.specs.Bytes.{part}
 use Rattle.library_yanks.specs.Flags.{settled_flags}
-use borrow.Author.Rules.{rules}
 use Rattle.keeper_directory.proofs.entry_rows.put_flags.Goals as goal
 
 pub slice_bounds-settle-count : goal.slice_bounds-settle-count

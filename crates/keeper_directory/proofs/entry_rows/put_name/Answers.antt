@@ -1,8 +1,6 @@
-use Prim.Native.Nat.{◌-◌, ◌≤◌}
 use native.Mathlib.Omega.{arith}
-use mathlib.Core.Path.{◌≡◌, refl}
-use lib.ListN.{length}
-use lib.Seq.{paste, paste-zero}
+use mathlib.Core.Path.{refl}
+use lib.Seq.{paste-zero}
 use Rattle.keeper_directory.proofs.RowBytes.{name-more, name-end}
 use borrow.Author.Rules.{rules}
 use Rattle.keeper_directory.proofs.entry_rows.put_name.Goals as goal

@@ -1,11 +1,8 @@
 -- Each turn copies one letter more. Assumes nothing.
 use Prim.Native.Nat.{◌-◌, ◌≤◌}
-use native.Mathlib.Omega.{arith}
-use mathlib.Core.Path.{◌≡◌, refl}
+use mathlib.Core.Path.{◌≡◌}
 use lib.ListN.{length}
-use lib.Seq.{paste, paste-zero}
-use Rattle.keeper_directory.proofs.RowBytes.{name-more, name-end}
-use borrow.Author.Rules.{rules}
+use lib.Seq.{paste}
 use Rattle.keeper_directory.proofs.entry_rows.put_name.Given as goal
 
 abbrev pub invariant-loop-i : goal.invariant-loop-i

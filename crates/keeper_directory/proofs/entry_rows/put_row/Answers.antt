@@ -4,7 +4,6 @@ use mathlib.Core.Path.{sym}
 use lib.ListN.{length-set}
 use lib.Dec.{eqb}
 use Rattle.keeper_directory.proofs.RowBytes.{name-long, row_put}
-use borrow.Author.Rules.{rules}
 use Rattle.keeper_directory.proofs.entry_rows.put_row.Goals as goal
 
 pub slice_bounds-put_name-end : goal.slice_bounds-put_name-end

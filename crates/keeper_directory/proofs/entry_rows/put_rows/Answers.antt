@@ -1,9 +1,8 @@
 use native.Mathlib.Omega.{arith}
 use mathlib.Core.Path.{◌≡◌, refl, ◌∙◌}
-use Prim.Native.Nat.{◌-◌, ◌≤◌}
 use lib.ListN.{length}
 use Rattle.keeper_directory.specs.Parts.{row_at}
-use Rattle.keeper_directory.proofs.RowBytes.{front, row-at-long, row-at-is, rows_more}
+use Rattle.keeper_directory.proofs.RowBytes.{row-at-long, row-at-is, rows_more}
 use borrow.Author.Rules.{rules}
 use Rattle.keeper_directory.proofs.entry_rows.put_rows.Goals as goal
 

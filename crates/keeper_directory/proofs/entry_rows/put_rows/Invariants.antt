@@ -1,11 +1,9 @@
 -- Each turn writes the row of one entry more. Assumes nothing.
-use native.Mathlib.Omega.{arith}
-use mathlib.Core.Path.{◌≡◌, refl, ◌∙◌}
+use mathlib.Core.Path.{◌≡◌}
 use Prim.Native.Nat.{◌-◌, ◌≤◌}
 use lib.ListN.{length}
 use Rattle.keeper_directory.specs.Parts.{row_at}
-use Rattle.keeper_directory.proofs.RowBytes.{front, row-at-long, row-at-is, rows_more}
-use borrow.Author.Rules.{rules}
+use Rattle.keeper_directory.proofs.RowBytes.{front, row-at-long}
 use Rattle.keeper_directory.proofs.entry_rows.put_rows.Given as goal
 
 abbrev pub invariant-loop-i : goal.invariant-loop-i

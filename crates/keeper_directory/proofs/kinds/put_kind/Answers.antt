@@ -2,7 +2,6 @@
 use mathlib.Core.Path.{sym, ap}
 use Rattle.keeper_directory.proofs.DeckKinds.{kind-out}
 use Rattle.keeper_directory.specs.Parts.{kind_put}
-use borrow.Author.Rules.{rules}
 use Rattle.keeper_directory.proofs.kinds.put_kind.Goals as goal
 
 pub returns-then-kinds-n : goal.returns-then-kinds-n

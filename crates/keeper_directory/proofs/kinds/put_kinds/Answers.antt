@@ -1,9 +1,7 @@
 use native.Mathlib.Omega.{arith}
-use mathlib.Core.Path.{◌≡◌, sym}
-use mathlib.Core.List.{List}
-use Prim.Native.Nat.{ℕ, ◌-◌}
+use mathlib.Core.Path.{sym}
 use lib.ListN.{length}
-use Rattle.library_check.proofs.Spanning.{Still, still-start, still-on, still-end}
+use Rattle.library_check.proofs.Spanning.{still-start, still-on, still-end}
 use Rattle.library_check.proofs.Showing.{shown-next}
 use Rattle.keeper_directory.specs.Parts.{kinds_of}
 use Rattle.keeper_directory.proofs.DeckKinds.{shown-kind}

@@ -1,14 +1,10 @@
 -- What all cards put is what those passed have put and those left put. Assumes nothing.
-use native.Mathlib.Omega.{arith}
-use mathlib.Core.Path.{◌≡◌, sym}
+use mathlib.Core.Path.{◌≡◌}
 use mathlib.Core.List.{List}
 use Prim.Native.Nat.{ℕ, ◌-◌}
 use lib.ListN.{length}
-use Rattle.library_check.proofs.Spanning.{Still, still-start, still-on, still-end}
-use Rattle.library_check.proofs.Showing.{shown-next}
+use Rattle.library_check.proofs.Spanning.{Still}
 use Rattle.keeper_directory.specs.Parts.{kinds_of}
-use Rattle.keeper_directory.proofs.DeckKinds.{shown-kind}
-use borrow.Author.Rules.{rules}
 use Rattle.keeper_directory.proofs.kinds.put_kinds.Given as goal
 
 abbrev pub invariant-loop-at : goal.invariant-loop-at

@@ -4,7 +4,6 @@ use native.Mathlib.Omega.{arith}
 use Rattle.words.specs.Display.{code_of}
 use Rattle.words.specs.Names.{is_name, name_word}
 use Rattle.words.specs.Spelt.{word_of_name}
-use borrow.Author.Rules.{rules}
 use Rattle.library.proofs.fixed.header_word.Goals as goal
 
 pub overflow_add-result : goal.overflow_add-result

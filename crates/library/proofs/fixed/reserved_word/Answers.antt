@@ -2,7 +2,6 @@
 use Rattle.words.specs.Display.{code_of}
 use Rattle.words.specs.Names.{is_name, name_word}
 use Rattle.words.specs.Spelt.{word_of_name}
-use borrow.Author.Rules.{rules}
 use Rattle.library.proofs.fixed.reserved_word.Goals as goal
 
 pub returns : goal.returns

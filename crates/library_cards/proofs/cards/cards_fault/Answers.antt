@@ -1,7 +1,6 @@
 -- The part that is lent is the directory, and the cards stand after the tables. Assumes nothing.
 use mathlib.Core.Path.{sym, ◌∙◌}
 use Rattle.library_cards.proofs.CardsLeft.{cards-start}
-use borrow.Author.Rules.{rules}
 use Rattle.library_cards.proofs.cards.cards_fault.Goals as goal
 
 pub returns : goal.returns

@@ -1,8 +1,6 @@
-use Prim.Native.Nat.{◌-◌, ◌≤◌}
-use mathlib.Core.Path.{◌≡◌, refl, sym, ◌∙◌}
+use Prim.Native.Nat.{◌-◌}
+use mathlib.Core.Path.{refl, sym, ◌∙◌}
 use native.Mathlib.Omega.{arith}
-use lib.ListN.{length}
-use Rattle.library_cards.specs.Found.{answer_from}
 use Rattle.library_cards.proofs.CardsLeft.{begun, ended, turn_many, turn-form, turn-text, turn_on, cards-end}
 use borrow.Author.Rules.{rules}
 use Rattle.library_cards.proofs.cards.cards_from.Goals as goal

@@ -1,11 +1,8 @@
 -- At each card that passes, the answer of the whole is that of the cards after it. Assumes nothing.
 use Prim.Native.Nat.{◌-◌, ◌≤◌}
-use mathlib.Core.Path.{◌≡◌, refl, sym, ◌∙◌}
-use native.Mathlib.Omega.{arith}
+use mathlib.Core.Path.{◌≡◌}
 use lib.ListN.{length}
 use Rattle.library_cards.specs.Found.{answer_from}
-use Rattle.library_cards.proofs.CardsLeft.{begun, ended, turn_many, turn-form, turn-text, turn_on, cards-end}
-use borrow.Author.Rules.{rules}
 use Rattle.library_cards.proofs.cards.cards_from.Given as goal
 
 abbrev pub invariant-loop-at : goal.invariant-loop-at

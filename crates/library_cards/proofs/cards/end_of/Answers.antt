@@ -1,7 +1,6 @@
 -- The part that is tested is the text. Assumes nothing.
 use mathlib.Core.Path.{refl, sym, ◌∙◌}
 use Rattle.library_cards.proofs.CardsLeft.{end-there, end-not}
-use borrow.Author.Rules.{rules}
 use Rattle.library_cards.proofs.cards.end_of.Goals as goal
 
 pub returns-then-is_text : goal.returns-then-is_text

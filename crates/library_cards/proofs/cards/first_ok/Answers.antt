@@ -4,7 +4,6 @@ use native.Mathlib.Omega.{arith}
 use borrow.Author.Tests.{eq-eqb, ne_eqb, lt-ltb, le-ltb}
 use Rattle.words.proofs.TestParts.{and-true}
 use Rattle.library_cards.proofs.WordTests.{never}
-use borrow.Author.Rules.{rules}
 use Rattle.library_cards.proofs.cards.first_ok.Goals as goal
 
 pub returns-then-w-ne0 : goal.returns-then-w-ne0

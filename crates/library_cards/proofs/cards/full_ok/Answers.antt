@@ -2,10 +2,8 @@
 use Prim.Native.Nat.{◌/◌, ◌%◌, ◌^◌, ◌<◌}
 use mathlib.Core.Path.{sym, ◌∙◌}
 use native.Mathlib.Omega.{arith}
-use borrow.Author.Tests.{not-true, not-false}
 use mathlib.Core.List.{[], ◌∷◌}
 use Rattle.library_cards.proofs.WordTests.{never, full-top, full-bytes, bytes-fail, bytes_on, bytes-end}
-use borrow.Author.Rules.{rules}
 use Rattle.library_cards.proofs.cards.full_ok.Goals as goal
 
 pub returns-then-w-ne0 : goal.returns-then-w-ne0

@@ -1,14 +1,9 @@
 -- Up to each place no word has bit 59, so the search of the whole is that of the rest. Assumes nothing.
-use Prim.Native.Nat.{ℕ, ◌+◌, ◌-◌, ◌≤◌}
-use native.Mathlib.Nat.{add-zero, add_assoc}
-use mathlib.Core.Path.{◌≡◌, sym, ap, ◌∙◌}
+use Prim.Native.Nat.{◌+◌, ◌-◌, ◌≤◌}
+use mathlib.Core.Path.{◌≡◌}
 use lib.ListN.{length, drop}
-use borrow.Author.Tests.{le-leb, lt-leb}
 use Rattle.words.specs.Base.{place_from}
 use Rattle.library.specs.Check.{is_last_word}
-use Rattle.library_tables.specs.Found.{found}
-use Rattle.library.proofs.FirstPlace.{place_here, place-on, place_none}
-use borrow.Author.Rules.{rules}
 use Rattle.library_cards.proofs.cards.heads_of.Given as goal
 
 abbrev pub invariant-loop-i : goal.invariant-loop-i

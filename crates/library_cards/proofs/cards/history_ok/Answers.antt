@@ -1,10 +1,6 @@
-use Prim.Native.Nat.{◌-◌, ◌≤◌, ◌<◌}
 use mathlib.Core.Path.{◌≡◌, refl, sym, ◌∙◌}
 use native.Mathlib.Omega.{arith}
 use mathlib.Core.Bool.{true}
-use lib.ListN.{length, drop}
-use borrow.Author.Tests.{not-true, not-false}
-use Rattle.library.specs.WordForm.{ok_further}
 use Rattle.library_cards.proofs.WordTests.{further-last, further-fail, further-on, further-end}
 use borrow.Author.Rules.{rules}
 use Rattle.library_cards.proofs.cards.history_ok.Goals as goal

@@ -1,13 +1,8 @@
 -- Up to each place every word passes, so the words of the whole pass just where those of the rest do. Assumes nothing.
 use Prim.Native.Nat.{◌-◌, ◌≤◌, ◌<◌}
-use mathlib.Core.Path.{◌≡◌, refl, sym, ◌∙◌}
-use native.Mathlib.Omega.{arith}
-use mathlib.Core.Bool.{true}
+use mathlib.Core.Path.{◌≡◌}
 use lib.ListN.{length, drop}
-use borrow.Author.Tests.{not-true, not-false}
 use Rattle.library.specs.WordForm.{ok_further}
-use Rattle.library_cards.proofs.WordTests.{further-last, further-fail, further-on, further-end}
-use borrow.Author.Rules.{rules}
 use Rattle.library_cards.proofs.cards.history_ok.Given as goal
 
 abbrev pub invariant-loop-i : goal.invariant-loop-i

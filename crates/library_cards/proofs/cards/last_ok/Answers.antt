@@ -2,7 +2,6 @@
 use Prim.Native.Nat.{◌/◌, ◌%◌, ◌^◌}
 use mathlib.Core.Path.{sym, ◌∙◌}
 use mathlib.Core.List.{[], ◌∷◌}
-use borrow.Author.Tests.{not-true, not-false}
 use Rattle.library_cards.proofs.WordTests.{last-top, last-fail, last_on, used-gap, used-fail, used-on, used-end, used-last}
 use borrow.Author.Rules.{rules}
 use Rattle.library_cards.proofs.cards.last_ok.Goals as goal

@@ -2,7 +2,6 @@
 use mathlib.Core.Path.{sym, ◌∙◌}
 use native.Mathlib.Omega.{arith}
 use Rattle.library_cards.proofs.WordTests.{never, number-low, number-beyond, number_is, number-above}
-use borrow.Author.Rules.{rules}
 use Rattle.library_cards.proofs.cards.number_ok.Goals as goal
 
 pub returns-then-n-least : goal.returns-then-n-least

@@ -1,6 +1,5 @@
 -- The tests come in the order of `word_tests`, and the history is the part of the image after the first word. Assumes nothing.
 use mathlib.Core.Path.{sym, ◌∙◌}
-use borrow.Author.Tests.{not-true, not-false}
 use Rattle.library_cards.proofs.WordTests.{words-many, words-past, words-first, words-further}
 use borrow.Author.Rules.{rules}
 use Rattle.library_cards.proofs.cards.words_ok.Goals as goal

@@ -1,7 +1,6 @@
 -- Rows 1 to 4, then the rows over cards. Assumes nothing.
 use mathlib.Core.Path.{sym, ◌∙◌}
 use Rattle.library_cards.proofs.TablesThenCards.{tables-refuse, tables-pass, tables-on}
-use borrow.Author.Rules.{rules}
 use Rattle.library_cards.proofs.first.first_rows.Goals as goal
 
 pub cards_fault-requires : goal.cards_fault-requires

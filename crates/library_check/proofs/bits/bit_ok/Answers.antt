@@ -2,7 +2,6 @@
 use mathlib.Core.Path.{sym, ◌∙◌}
 use Rattle.library_check.proofs.Weighing.{bit-none, bit-flagged, bit-clear}
 use Rattle.library_yanks.specs.Bytes.{flagged}
-use borrow.Author.Rules.{rules}
 use Rattle.library_check.proofs.bits.bit_ok.Goals as goal
 
 pub returns-then-b-eq0 : goal.returns-then-b-eq0

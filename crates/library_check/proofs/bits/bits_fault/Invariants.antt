@@ -1,18 +1,10 @@
 -- The cards passed have the right bits, so the first wrong one is among those left. Assumes nothing.
-use mathlib.Core.Path.{sym, ap, ◌∙◌}
 use Prim.Native.Nat.{ℕ, ◌-◌}
-use native.Mathlib.Omega.{arith}
 use mathlib.Core.List.{List}
 use lib.ListN.{length}
-use borrow.Author.Tests.{not-true, not-false}
 use Rattle.library.specs.Check.{first_failing, ok_bits}
-use Rattle.library_tables.specs.Found.{found}
 use Rattle.library_yanks.specs.Bytes.{flagged}
-use Rattle.library_check.proofs.Spanning.{Still, still-start, still-on, still-here, still-end}
-use Rattle.library_check.proofs.Showing.{shown-next, shown-place}
-use Rattle.library_check.proofs.Telling.{shown-bits}
-use Rattle.library_check.proofs.Decking.{failing-on, failing-here}
-use borrow.Author.Rules.{rules}
+use Rattle.library_check.proofs.Spanning.{Still}
 use Rattle.library_check.proofs.bits.bits_fault.Given as goal
 
 abbrev pub invariant-loop-at : goal.invariant-loop-at

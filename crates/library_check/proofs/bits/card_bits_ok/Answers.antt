@@ -1,12 +1,10 @@
 -- The activity bit first, then the yank bits. Assumes nothing.
 use mathlib.Core.Path.{sym, ap, ◌∙◌}
 use mathlib.Core.Bool.{Bool, ◌&&◌, beq}
-use borrow.Author.Tests.{not-true, not-false}
 use Rattle.words.specs.Base.{all}
 use Rattle.library.specs.Check.{raw_bytes}
 use Rattle.library_yanks.specs.Bytes.{part, flagged}
 use Rattle.library_check.specs.Rows.{ok_bit}
-use borrow.Author.Rules.{rules}
 use Rattle.library_check.proofs.bits.card_bits_ok.Goals as goal
 
 pub returns-then-not-agree : goal.returns-then-not-agree

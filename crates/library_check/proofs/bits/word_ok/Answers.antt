@@ -2,12 +2,10 @@
 use mathlib.Core.Path.{sym, ◌∙◌}
 use Prim.Native.Nat.{◌/◌, ◌%◌, ◌^◌}
 use mathlib.Core.List.{[], ◌∷◌}
-use borrow.Author.Tests.{not-true, not-false}
 use Rattle.words.proofs.TestParts.{and-true}
 use Rattle.library_yanks.specs.Bytes.{flagged}
 use Rattle.library_check.specs.Rows.{ok_bit}
 use Rattle.library_check.proofs.Weighing.{all-fails, all-passes}
-use borrow.Author.Rules.{rules}
 use Rattle.library_check.proofs.bits.word_ok.Goals as goal
 
 pub returns-then-not-bit_ok : goal.returns-then-not-bit_ok

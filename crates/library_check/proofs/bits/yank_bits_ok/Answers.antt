@@ -1,10 +1,5 @@
-use mathlib.Core.Path.{◌≡◌, sym, ◌∙◌}
-use Prim.Native.Nat.{◌≤◌, ◌-◌}
-use borrow.Author.Tests.{not-true, not-false}
-use Rattle.words.specs.Base.{all}
-use Rattle.library.specs.Check.{threes, raw_bytes}
-use Rattle.library_yanks.specs.Bytes.{part, flagged}
-use Rattle.library_check.specs.Rows.{ok_bit}
+use mathlib.Core.Path.{sym, ◌∙◌}
+use Rattle.library_yanks.specs.Bytes.{flagged}
 use Rattle.library_check.proofs.Weighing.{bits-start, bits-not, bits-on, bits-here, bits-end}
 use borrow.Author.Rules.{rules}
 use Rattle.library_check.proofs.bits.yank_bits_ok.Goals as goal

@@ -1,13 +1,10 @@
 -- The words passed are right, so all are if those left are. Assumes nothing.
-use mathlib.Core.Path.{◌≡◌, sym, ◌∙◌}
+use mathlib.Core.Path.{◌≡◌}
 use Prim.Native.Nat.{◌≤◌, ◌-◌}
-use borrow.Author.Tests.{not-true, not-false}
 use Rattle.words.specs.Base.{all}
 use Rattle.library.specs.Check.{threes, raw_bytes}
 use Rattle.library_yanks.specs.Bytes.{part, flagged}
 use Rattle.library_check.specs.Rows.{ok_bit}
-use Rattle.library_check.proofs.Weighing.{bits-start, bits-not, bits-on, bits-here, bits-end}
-use borrow.Author.Rules.{rules}
 use Rattle.library_check.proofs.bits.yank_bits_ok.Given as goal
 
 abbrev pub invariant-loop-i : goal.invariant-loop-i

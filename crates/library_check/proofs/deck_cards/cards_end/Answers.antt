@@ -1,10 +1,7 @@
 use mathlib.Core.Path.{sym, ◌∙◌}
-use Prim.Native.Nat.{ℕ, ◌-◌, ◌≤◌}
 use native.Mathlib.Omega.{arith}
-use mathlib.Core.List.{List}
-use lib.ListN.{length}
 use Rattle.library_check.proofs.Showing.{shown-next}
-use Rattle.library_check.proofs.Decking.{Ahead, ahead-start, ahead-on, ahead-here, ahead-end, shown-begins}
+use Rattle.library_check.proofs.Decking.{ahead-start, ahead-on, ahead-here, ahead-end, shown-begins}
 use borrow.Author.Rules.{rules}
 use Rattle.library_check.proofs.deck_cards.cards_end.Goals as goal
 

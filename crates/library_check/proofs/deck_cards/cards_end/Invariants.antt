@@ -1,12 +1,8 @@
 -- The cards passed begin no deck, so those ahead of the first deck card are they and those ahead of it among the rest. Assumes nothing.
-use mathlib.Core.Path.{sym, ◌∙◌}
 use Prim.Native.Nat.{ℕ, ◌-◌, ◌≤◌}
-use native.Mathlib.Omega.{arith}
 use mathlib.Core.List.{List}
 use lib.ListN.{length}
-use Rattle.library_check.proofs.Showing.{shown-next}
-use Rattle.library_check.proofs.Decking.{Ahead, ahead-start, ahead-on, ahead-here, ahead-end, shown-begins}
-use borrow.Author.Rules.{rules}
+use Rattle.library_check.proofs.Decking.{Ahead}
 use Rattle.library_check.proofs.deck_cards.cards_end.Given as goal
 
 abbrev pub invariant-loop-at : goal.invariant-loop-at

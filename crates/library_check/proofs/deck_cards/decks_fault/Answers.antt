@@ -1,20 +1,18 @@
 use mathlib.Core.Path.{sym, ap, ◌∙◌}
-use Prim.Native.Nat.{ℕ, ◌+◌, ◌-◌}
+use Prim.Native.Nat.{ℕ, ◌+◌}
 use native.Mathlib.Omega.{arith}
 use mathlib.Core.Bool.{not}
 use mathlib.Core.List.{List}
 use mathlib.Core.Option.{Option}
 use lib.ListN.{length, get_or, drop, drop_of_length-le}
 use lib.Seq.{drop-drop}
-use borrow.Author.Tests.{not-true, not-false}
 use Rattle.words.specs.Base.{is_nil}
 use Rattle.library.specs.Library.{deck_line}
 use Rattle.library.specs.Check.{Stored, row7, fault_if}
 use Rattle.library_tables.specs.Found.{found}
-use Rattle.library_check.proofs.Spanning.{Still, still-start, still-on, still-here, still-end}
+use Rattle.library_check.proofs.Spanning.{still-start, still-on, still-here, still-end}
 use Rattle.library_check.proofs.Showing.{shown-next, shown-place}
 use Rattle.library_check.proofs.Decking.{shown-begins, shown_ok, none-ok, row_on, row-taken, row_here, names_more}
-use borrow.Author.Rules.{rules}
 use Rattle.library_check.proofs.deck_cards.decks_fault.Goals as goal
 
 pub loop-at-init : goal.loop-at-init

@@ -1,7 +1,6 @@
 -- A deck card's line has a name, and the tests are of that. Assumes nothing.
 use mathlib.Core.Path.{sym, ap, ◌∙◌}
 use Rattle.library_check.specs.Rows.{is_next}
-use borrow.Author.Rules.{rules}
 use Rattle.library_check.proofs.deck_cards.is_next.Goals as goal
 
 pub returns-in-Deck : goal.returns-in-Deck

@@ -5,7 +5,6 @@ use lib.Dec.{eqb}
 use borrow.Author.Tests.{eq-eqb, ne_eqb}
 use Rattle.library.specs.Library.{entry_of}
 use Rattle.library_check.proofs.Decking.{four-first, four-second, four-third, four-last}
-use borrow.Author.Rules.{rules}
 use Rattle.library_check.proofs.deck_cards.titles.Goals as goal
 
 pub returns-then-w-name : goal.returns-then-w-name

@@ -1,10 +1,8 @@
-use mathlib.Core.Path.{◌≡◌, sym, ◌∙◌}
-use mathlib.Core.List.{List}
-use Prim.Native.Nat.{ℕ, ◌-◌, ◌≤◌, ◌<◌}
+use mathlib.Core.Path.{sym, ◌∙◌}
+use Prim.Native.Nat.{◌<◌}
 use native.Mathlib.Omega.{arith}
 use lib.ListN.{length, length-set}
-use Rattle.library_check.proofs.Keying.{Listing, list-start, list_on, list_full, list-end}
-use borrow.Author.Rules.{rules}
+use Rattle.library_check.proofs.Keying.{list-start, list_on, list_full, list-end}
 use Rattle.library_check.proofs.twice.list_keys.Goals as goal
 
 pub loop-at-init : goal.loop-at-init

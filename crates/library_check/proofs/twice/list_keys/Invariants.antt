@@ -1,11 +1,9 @@
 -- The keys of the cards ahead are listed in their order. Assumes nothing.
-use mathlib.Core.Path.{◌≡◌, sym, ◌∙◌}
+use mathlib.Core.Path.{◌≡◌}
 use mathlib.Core.List.{List}
-use Prim.Native.Nat.{ℕ, ◌-◌, ◌≤◌, ◌<◌}
-use native.Mathlib.Omega.{arith}
-use lib.ListN.{length, length-set}
-use Rattle.library_check.proofs.Keying.{Listing, list-start, list_on, list_full, list-end}
-use borrow.Author.Rules.{rules}
+use Prim.Native.Nat.{ℕ, ◌-◌, ◌≤◌}
+use lib.ListN.{length}
+use Rattle.library_check.proofs.Keying.{Listing}
 use Rattle.library_check.proofs.twice.list_keys.Given as goal
 
 abbrev pub invariant-loop-at : goal.invariant-loop-at

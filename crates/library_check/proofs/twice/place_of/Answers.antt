@@ -1,7 +1,4 @@
-use mathlib.Core.List.{List}
-use Prim.Native.Nat.{ℕ, ◌-◌}
-use Rattle.library_check.proofs.Keying.{Placing, place-start, place-on, place_end}
-use borrow.Author.Rules.{rules}
+use Rattle.library_check.proofs.Keying.{place-start, place-on, place_end}
 use Rattle.library_check.proofs.twice.place_of.Goals as goal
 
 pub loop-i-init : goal.loop-i-init

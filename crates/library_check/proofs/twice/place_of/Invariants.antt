@@ -1,8 +1,7 @@
 -- As many cards are passed as are ahead of the one. Assumes nothing.
 use mathlib.Core.List.{List}
 use Prim.Native.Nat.{ℕ, ◌-◌}
-use Rattle.library_check.proofs.Keying.{Placing, place-start, place-on, place_end}
-use borrow.Author.Rules.{rules}
+use Rattle.library_check.proofs.Keying.{Placing}
 use Rattle.library_check.proofs.twice.place_of.Given as goal
 
 abbrev pub invariant-loop-i : goal.invariant-loop-i

@@ -1,7 +1,6 @@
 -- Rows 1 to 6, then the rows after them. Assumes nothing.
 use mathlib.Core.Path.{sym, ◌∙◌}
 use Rattle.library_check.proofs.Checking.{first-refused, first-none, first-sound}
-use borrow.Author.Rules.{rules}
 use Rattle.library_check.proofs.whole.check.Goals as goal
 
 pub check_cards-requires : goal.check_cards-requires

@@ -1,6 +1,5 @@
 -- The parts that are lent are the directory and the deck list, and the cards stand after them. Assumes nothing.
 use Rattle.library_check.proofs.Checking.{after-rows}
-use borrow.Author.Rules.{rules}
 use Rattle.library_check.proofs.whole.check_cards.Goals as goal
 
 pub returns : goal.returns

@@ -6,7 +6,6 @@ use Rattle.library.specs.declared.Fault.TheVariants.{Decks}
 use Rattle.library_tables.proofs.FirstFault.{found_none}
 use Rattle.library_check.specs.Rows.{after_decks}
 use Rattle.library_check.proofs.Checking.{or_at, or-on, row7-found}
-use borrow.Author.Rules.{rules}
 use Rattle.library_check.proofs.whole.check_decks.Goals as goal
 
 pub returns-in-At : goal.returns-in-At

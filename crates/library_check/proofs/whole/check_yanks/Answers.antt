@@ -1,6 +1,5 @@
 -- One law for each way out. Assumes nothing.
 use Rattle.library_check.proofs.Checking.{yank-at, twice-at, bit_at, none-at}
-use borrow.Author.Rules.{rules}
 use Rattle.library_check.proofs.whole.check_yanks.Goals as goal
 
 pub returns-in-At : goal.returns-in-At

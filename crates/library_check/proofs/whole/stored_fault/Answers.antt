@@ -5,7 +5,6 @@ use Prim.Native.Nat.{ℕ}
 use Rattle.library.specs.Check.{first_failing, ok_bits}
 use Rattle.library_yanks.specs.Bytes.{flagged}
 use Rattle.library_tables.specs.Found.{found}
-use borrow.Author.Rules.{rules}
 use Rattle.library_check.proofs.whole.stored_fault.Goals as goal
 
 pub returns : goal.returns

@@ -1,7 +1,6 @@
 -- The three tests of `ok_target`, of the name's number. Assumes nothing.
 use mathlib.Core.Path.{◌∙◌}
 use Rattle.library_check.proofs.Naming.{name-none, name-high, name-lower}
-use borrow.Author.Rules.{rules}
 use Rattle.library_check.proofs.yanks.name_ok.Goals as goal
 
 pub returns-then-n-eq0 : goal.returns-then-n-eq0

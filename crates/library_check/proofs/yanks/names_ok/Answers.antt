@@ -1,11 +1,10 @@
-use mathlib.Core.Path.{◌≡◌, refl, sym, ap, ◌∙◌}
-use Prim.Native.Nat.{ℕ, ◌+◌, ◌-◌, ◌≤◌}
+use mathlib.Core.Path.{refl, sym, ap, ◌∙◌}
+use Prim.Native.Nat.{ℕ}
 use native.Mathlib.Omega.{arith}
 use mathlib.Core.Bool.{true, false}
-use borrow.Author.Tests.{not-true, not-false}
-use lib.ListN.{length, drop}
+use lib.ListN.{drop}
 use Rattle.words.specs.Base.{all, take_until}
-use Rattle.words_lines.specs.Directive.{is_comma, params}
+use Rattle.words_lines.specs.Directive.{is_comma}
 use Rattle.words_lines.proofs.SplitList.{parts_from, all_none, all-next, all-not}
 use Rattle.words_lines.proofs.FieldNames.{step-name, step_end}
 use Rattle.library_check.specs.Rows.{ok_param}

@@ -1,17 +1,11 @@
 -- The names passed may be yanked, so all may if all from here on may. Assumes nothing.
-use mathlib.Core.Path.{◌≡◌, refl, sym, ap, ◌∙◌}
-use Prim.Native.Nat.{ℕ, ◌+◌, ◌-◌, ◌≤◌}
-use native.Mathlib.Omega.{arith}
-use mathlib.Core.Bool.{true, false}
-use borrow.Author.Tests.{not-true, not-false}
-use lib.ListN.{length, drop}
-use Rattle.words.specs.Base.{all, take_until}
+use mathlib.Core.Path.{◌≡◌}
+use Prim.Native.Nat.{◌+◌, ◌-◌, ◌≤◌}
+use lib.ListN.{length}
+use Rattle.words.specs.Base.{all}
 use Rattle.words_lines.specs.Directive.{is_comma, params}
-use Rattle.words_lines.proofs.SplitList.{parts_from, all_none, all-next, all-not}
-use Rattle.words_lines.proofs.FieldNames.{step-name, step_end}
+use Rattle.words_lines.proofs.SplitList.{parts_from}
 use Rattle.library_check.specs.Rows.{ok_param}
-use Rattle.library_check.proofs.Naming.{param-told}
-use borrow.Author.Rules.{rules}
 use Rattle.library_check.proofs.yanks.names_ok.Given as goal
 
 abbrev pub invariant-loop-word : goal.invariant-loop-word

@@ -2,7 +2,6 @@
 use mathlib.Core.Path.{sym, ap, ◌∙◌}
 use Rattle.library.specs.Yanks.{is_yank}
 use Rattle.library_check.proofs.Naming.{yank-field, yank-line-not}
-use borrow.Author.Rules.{rules}
 use Rattle.library_check.proofs.yanks.yank_line_ok.Goals as goal
 
 pub names_ok-requires : goal.names_ok-requires

@@ -3,7 +3,6 @@ use mathlib.Core.Path.{sym}
 use lib.Seq.{length-take-le}
 use Rattle.library_image.proofs.CardPlaces.{line_taken}
 use Rattle.library_check.proofs.Naming.{yank-same}
-use borrow.Author.Rules.{rules}
 use Rattle.library_check.proofs.yanks.yank_ok.Goals as goal
 
 pub slice_bounds-line-end : goal.slice_bounds-line-end

@@ -2,7 +2,6 @@
 use mathlib.Core.Path.{sym, subst}
 use Rattle.library_index.specs.Names.{Knows}
 use Rattle.library_index.proofs.NameTree.{planted-entry}
-use borrow.Author.Rules.{rules}
 use Rattle.library_check.proofs.yanks.yanks_fault.Goals as goal
 
 pub planted_fault-requires : goal.planted_fault-requires

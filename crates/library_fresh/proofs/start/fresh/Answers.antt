@@ -2,7 +2,6 @@
 use native.Mathlib.Omega.{arith}
 use lib.ListN.{length-set}
 use Rattle.library_fresh.proofs.FreshWords.{fresh-short, fresh-put}
-use borrow.Author.Rules.{rules}
 use Rattle.library_fresh.proofs.start.fresh.Goals as goal
 
 pub returns-then-space-lt-WORDS : goal.returns-then-space-lt-WORDS

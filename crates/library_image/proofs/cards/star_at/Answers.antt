@@ -2,7 +2,6 @@
 use lib.Dec.{eqb}
 use Prim.Native.Nat.{ℕ, ◌/◌, ◌%◌, ◌^◌}
 use mathlib.Core.Path.{ap}
-use borrow.Author.Rules.{rules}
 use Rattle.library_image.proofs.cards.star_at.Goals as goal
 
 pub returns : goal.returns

@@ -1,9 +1,8 @@
 use Rattle.library_image.proofs.CardPlaces.{text-beyond, text-here, text-on}
-use Rattle.library_image.specs.Places.{text_at}
 use lib.ListN.{length}
 use native.Mathlib.Omega.{arith}
-use mathlib.Core.Path.{◌≡◌, refl, sym, ◌∙◌}
-use Prim.Native.Nat.{◌-◌, ◌≤◌}
+use mathlib.Core.Path.{refl, sym, ◌∙◌}
+use Prim.Native.Nat.{◌≤◌}
 use borrow.Author.Rules.{rules}
 use Rattle.library_image.proofs.cards.text_at.Goals as goal
 

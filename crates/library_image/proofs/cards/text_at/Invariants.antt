@@ -1,11 +1,8 @@
 -- Up to each place no word has bit 59, so the text starts where it would from there.
-use Rattle.library_image.proofs.CardPlaces.{text-beyond, text-here, text-on}
 use Rattle.library_image.specs.Places.{text_at}
 use lib.ListN.{length}
-use native.Mathlib.Omega.{arith}
-use mathlib.Core.Path.{◌≡◌, refl, sym, ◌∙◌}
+use mathlib.Core.Path.{◌≡◌}
 use Prim.Native.Nat.{◌-◌, ◌≤◌}
-use borrow.Author.Rules.{rules}
 use Rattle.library_image.proofs.cards.text_at.Given as goal
 
 abbrev pub invariant-loop-i : goal.invariant-loop-i

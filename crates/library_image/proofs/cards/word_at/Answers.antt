@@ -1,7 +1,6 @@
 -- Past the end the word is the default.
 use mathlib.Core.Path.{sym}
 use lib.ListN.{get_or-eq_default}
-use borrow.Author.Rules.{rules}
 use Rattle.library_image.proofs.cards.word_at.Goals as goal
 
 pub returns-else-at-image : goal.returns-else-at-image

@@ -3,7 +3,6 @@ use mathlib.Core.Path.{sym, ap}
 use Rattle.words_lines.specs.declared.Line.{Line}
 use Rattle.library.specs.Library.{deck_asked}
 use Rattle.library.specs.Asked.{deck_line_of}
-use borrow.Author.Rules.{rules}
 use Rattle.library_image_decks.proofs.deck_lines.deck_asked.Goals as goal
 
 pub returns-in-Deck : goal.returns-in-Deck

@@ -4,7 +4,6 @@ use Rattle.words_lines.specs.declared.Line.{Line}
 use Rattle.library.specs.Library.{deck_asked, is_deck_kind}
 use Rattle.library.specs.Asked.{deck_line_of}
 use Rattle.library_image_decks.proofs.DeckLineKind.{deck-kind, deck-no-kind}
-use borrow.Author.Rules.{rules}
 use Rattle.library_image_decks.proofs.deck_lines.deck_line.Goals as goal
 
 pub returns-then-is_deck_kind : goal.returns-then-is_deck_kind

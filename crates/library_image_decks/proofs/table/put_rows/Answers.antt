@@ -1,8 +1,5 @@
-use Rattle.library_image_decks.proofs.DeckRows.{Put, put-start, put-room, put-more, put_full, put_all}
-use lib.ListN.{length}
+use Rattle.library_image_decks.proofs.DeckRows.{put-start, put-room, put-more, put_full, put_all}
 use native.Mathlib.Omega.{arith}
-use Prim.Native.Nat.{◌-◌}
-use borrow.Author.Rules.{rules}
 use Rattle.library_image_decks.proofs.table.put_rows.Goals as goal
 
 pub loop-at-init : goal.loop-at-init

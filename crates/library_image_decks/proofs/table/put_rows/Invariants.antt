@@ -1,9 +1,7 @@
 -- Each turn adds the row of one deck more.
-use Rattle.library_image_decks.proofs.DeckRows.{Put, put-start, put-room, put-more, put_full, put_all}
+use Rattle.library_image_decks.proofs.DeckRows.{Put}
 use lib.ListN.{length}
-use native.Mathlib.Omega.{arith}
 use Prim.Native.Nat.{◌-◌}
-use borrow.Author.Rules.{rules}
 use Rattle.library_image_decks.proofs.table.put_rows.Given as goal
 
 abbrev pub invariant-loop-at : goal.invariant-loop-at

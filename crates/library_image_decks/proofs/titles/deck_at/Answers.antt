@@ -7,8 +7,6 @@ use Rattle.library.specs.Library.{deck_line}
 use Rattle.library.specs.Asked.{deck_line_of}
 use Rattle.library_image.proofs.CardPlaces.{line_taken}
 use Rattle.library_image_decks.proofs.DeckTitles.{deck-starless}
-use borrow.Author.Tests.{not-true}
-use borrow.Author.Rules.{rules}
 use Rattle.library_image_decks.proofs.titles.deck_at.Goals as goal
 
 pub returns-then-not-star_at : goal.returns-then-not-star_at

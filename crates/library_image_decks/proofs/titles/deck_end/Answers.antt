@@ -1,9 +1,7 @@
 use Rattle.library_image_decks.proofs.DeckRows.{end-here, end_on, end-past}
 use Rattle.library_image_decks.specs.Decks.{is_title, title_in, deck_end}
-use lib.ListN.{length}
 use native.Mathlib.Omega.{arith}
-use mathlib.Core.Path.{◌≡◌, refl, sym, ap, ◌∙◌}
-use Prim.Native.Nat.{◌-◌, ◌≤◌}
+use mathlib.Core.Path.{refl, sym, ap, ◌∙◌}
 use borrow.Author.Rules.{rules}
 use Rattle.library_image_decks.proofs.titles.deck_end.Goals as goal
 

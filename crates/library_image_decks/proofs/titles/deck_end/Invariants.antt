@@ -1,11 +1,8 @@
 -- Up to each place no deck card stands, so the next one is that from there.
-use Rattle.library_image_decks.proofs.DeckRows.{end-here, end_on, end-past}
-use Rattle.library_image_decks.specs.Decks.{is_title, title_in, deck_end}
+use Rattle.library_image_decks.specs.Decks.{deck_end}
 use lib.ListN.{length}
-use native.Mathlib.Omega.{arith}
-use mathlib.Core.Path.{◌≡◌, refl, sym, ap, ◌∙◌}
+use mathlib.Core.Path.{◌≡◌}
 use Prim.Native.Nat.{◌-◌, ◌≤◌}
-use borrow.Author.Rules.{rules}
 use Rattle.library_image_decks.proofs.titles.deck_end.Given as goal
 
 abbrev pub invariant-loop-at : goal.invariant-loop-at

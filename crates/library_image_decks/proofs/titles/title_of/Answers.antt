@@ -3,7 +3,6 @@ use Rattle.library_image.specs.Places.{line_in}
 use Rattle.library_image_decks.specs.Decks.{title_in}
 use Rattle.library_image_decks.proofs.DeckTitles.{title-line}
 use Rattle.library.specs.Library.{deck_line}
-use borrow.Author.Rules.{rules}
 use Rattle.library_image_decks.proofs.titles.title_of.Goals as goal
 
 pub returns-in-NotDeck : goal.returns-in-NotDeck

@@ -5,7 +5,6 @@ use Prim.Native.Nat.{◌<◌}
 use Rattle.library_index.specs.Names.{end_way}
 use Rattle.library_index.specs.declared.names.Walked.{Walked}
 use Rattle.library_index.proofs.NameTree.{grow-none, grow-way}
-use borrow.Author.Rules.{rules}
 use Rattle.library_index.proofs.names.grow.Goals as goal
 
 pub offset_bounds-ways-way : goal.offset_bounds-ways-way

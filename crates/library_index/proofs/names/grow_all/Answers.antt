@@ -1,8 +1,6 @@
 use mathlib.Core.Path.{refl}
-use Prim.Native.Nat.{◌-◌, ◌≤◌}
 use native.Mathlib.Omega.{arith}
-use lib.ListN.{length}
-use Rattle.library_index.proofs.NameTree.{Planting, plant-more, plant-full, plant-end}
+use Rattle.library_index.proofs.NameTree.{plant-more, plant-full, plant-end}
 use borrow.Author.Rules.{rules}
 use Rattle.library_index.proofs.names.grow_all.Goals as goal
 

@@ -1,10 +1,7 @@
 -- The entries passed are planted, each after those ahead of it. Assumes nothing.
-use mathlib.Core.Path.{refl}
 use Prim.Native.Nat.{◌-◌, ◌≤◌}
-use native.Mathlib.Omega.{arith}
 use lib.ListN.{length}
-use Rattle.library_index.proofs.NameTree.{Planting, plant-more, plant-full, plant-end}
-use borrow.Author.Rules.{rules}
+use Rattle.library_index.proofs.NameTree.{Planting}
 use Rattle.library_index.proofs.names.grow_all.Given as goal
 
 abbrev pub invariant-loop-n : goal.invariant-loop-n

@@ -1,6 +1,5 @@
 -- A long directory is searched, any other walked. Assumes nothing.
 use Rattle.library_index.proofs.NameTree.{by-search, by-stands, by-ends}
-use borrow.Author.Rules.{rules}
 use Rattle.library_index.proofs.names.number_by.Goals as goal
 
 pub returns-then-directory-gt-ENTRIES : goal.returns-then-directory-gt-ENTRIES

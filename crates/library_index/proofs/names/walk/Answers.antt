@@ -1,8 +1,6 @@
-use Prim.Native.Nat.{◌-◌}
 use native.Mathlib.Omega.{arith}
 use Rattle.library_index_twice.specs.KeyTree.{way_of}
-use Rattle.library_index.proofs.NameTree.{Going, walk_start, walk_here, walk_ends, walk-on, walk-out}
-use borrow.Author.Rules.{rules}
+use Rattle.library_index.proofs.NameTree.{walk_start, walk_here, walk_ends, walk-on, walk-out}
 use Rattle.library_index.proofs.names.walk.Goals as goal
 
 pub loop-at-init : goal.loop-at-init

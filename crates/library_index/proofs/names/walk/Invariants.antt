@@ -1,9 +1,6 @@
 -- What is still to go ends where the whole does. Assumes nothing.
 use Prim.Native.Nat.{◌-◌}
-use native.Mathlib.Omega.{arith}
-use Rattle.library_index_twice.specs.KeyTree.{way_of}
-use Rattle.library_index.proofs.NameTree.{Going, walk_start, walk_here, walk_ends, walk-on, walk-out}
-use borrow.Author.Rules.{rules}
+use Rattle.library_index.proofs.NameTree.{Going}
 use Rattle.library_index.proofs.names.walk.Given as goal
 
 abbrev pub invariant-loop-at : goal.invariant-loop-at

@@ -1,7 +1,5 @@
-use Prim.Native.Nat.{◌+◌, ◌-◌, ◌≤◌}
-use mathlib.Core.Path.{◌≡◌, refl, sym, ◌∙◌}
-use lib.ListN.{length, drop}
-use Rattle.library.specs.Library.{entry_from, entry_of}
+use mathlib.Core.Path.{refl, sym, ◌∙◌}
+use Rattle.library.specs.Library.{entry_of}
 use Rattle.library_index.proofs.NameNumber.{entry_here, entry-on, entry-none}
 use borrow.Author.Rules.{rules}
 use Rattle.library_index.proofs.search.entry_of.Goals as goal

@@ -1,10 +1,8 @@
 -- Up to each place no name is w, so its number in the whole is that in the rest, counted from there.
 use Prim.Native.Nat.{◌+◌, ◌-◌, ◌≤◌}
-use mathlib.Core.Path.{◌≡◌, refl, sym, ◌∙◌}
+use mathlib.Core.Path.{◌≡◌}
 use lib.ListN.{length, drop}
 use Rattle.library.specs.Library.{entry_from, entry_of}
-use Rattle.library_index.proofs.NameNumber.{entry_here, entry-on, entry-none}
-use borrow.Author.Rules.{rules}
 use Rattle.library_index.proofs.search.entry_of.Given as goal
 
 abbrev pub invariant-loop-i : goal.invariant-loop-i

@@ -1,9 +1,7 @@
 -- The sum stays below the number of slots. Assumes nothing.
-use mathlib.Core.Path.{◌≡◌, sym, ◌∙◌}
+use mathlib.Core.Path.{◌≡◌}
 use Prim.Native.Nat.{◌-◌, ◌≤◌}
-use native.Mathlib.Omega.{arith}
-use lib.ListN.{length, length-set}
-use borrow.Author.Rules.{rules}
+use lib.ListN.{length}
 use Rattle.library_index_twice.proofs.slots.add_up.Given as goal
 
 abbrev pub invariant-loop-i : goal.invariant-loop-i

@@ -1,8 +1,7 @@
 -- As many owners stay. Assumes nothing.
-use mathlib.Core.Path.{◌≡◌, sym, ◌∙◌}
+use mathlib.Core.Path.{◌≡◌}
 use Prim.Native.Nat.{◌-◌}
 use lib.ListN.{length}
-use borrow.Author.Rules.{rules}
 use Rattle.library_index_twice.proofs.slots.ask_all.Given as goal
 
 abbrev pub invariant-loop-i : goal.invariant-loop-i

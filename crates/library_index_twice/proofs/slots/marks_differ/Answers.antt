@@ -1,9 +1,7 @@
 use mathlib.Core.Path.{◌≡◌, sym, ◌∙◌}
-use Prim.Native.Nat.{ℕ, ◌-◌, ◌<◌}
+use Prim.Native.Nat.{ℕ, ◌<◌}
 use native.Mathlib.Omega.{arith}
-use lib.ListN.{length}
-use Rattle.library_index_twice.proofs.KeySlots.{Marking, mark-start, mark_on, mark-end}
-use borrow.Author.Rules.{rules}
+use Rattle.library_index_twice.proofs.KeySlots.{mark-start, mark_on, mark-end}
 use Rattle.library_index_twice.proofs.slots.marks_differ.Goals as goal
 
 pub loop-i-init : goal.loop-i-init

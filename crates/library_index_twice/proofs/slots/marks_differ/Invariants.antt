@@ -1,10 +1,7 @@
 -- A key that stood ahead would have marked its slot. Assumes nothing.
-use mathlib.Core.Path.{◌≡◌, sym, ◌∙◌}
-use Prim.Native.Nat.{ℕ, ◌-◌, ◌<◌}
-use native.Mathlib.Omega.{arith}
+use Prim.Native.Nat.{◌-◌}
 use lib.ListN.{length}
-use Rattle.library_index_twice.proofs.KeySlots.{Marking, mark-start, mark_on, mark-end}
-use borrow.Author.Rules.{rules}
+use Rattle.library_index_twice.proofs.KeySlots.{Marking}
 use Rattle.library_index_twice.proofs.slots.marks_differ.Given as goal
 
 abbrev pub invariant-loop-i : goal.invariant-loop-i

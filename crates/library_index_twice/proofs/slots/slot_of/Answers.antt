@@ -3,7 +3,6 @@ use Prim.Native.Nat.{ℕ, ◌+◌, ◌%◌, ◌^◌}
 use mathlib.Core.Path.{ap, ◌∙◌}
 use native.Mathlib.Omega.{arith}
 use Rattle.library_index_twice.proofs.KeySlots.{slot_is, no-owner, no_slot}
-use borrow.Author.Rules.{rules}
 use Rattle.library_index_twice.proofs.slots.slot_of.Goals as goal
 
 pub returns-then-owner-ge-OWNERS : goal.returns-then-owner-ge-OWNERS

@@ -2,7 +2,6 @@
 use mathlib.Core.Path.{◌≡◌}
 use Prim.Native.Nat.{ℕ}
 use native.Mathlib.Omega.{arith}
-use borrow.Author.Rules.{rules}
 use Rattle.library_index_twice.proofs.slots.slots_differ.Goals as goal
 
 pub returns-then-not-add_up : goal.returns-then-not-add_up

@@ -1,10 +1,6 @@
 use mathlib.Core.Path.{sym, ◌∙◌}
-use Prim.Native.Nat.{◌-◌}
 use native.Mathlib.Omega.{arith}
-use lib.ListN.{length}
-use Rattle.library_index_twice.specs.KeyTree.{Tree}
-use Rattle.library_index_twice.proofs.KeysAhead.{Until, until-start, until-on, until-here, until_end}
-use borrow.Author.Rules.{rules}
+use Rattle.library_index_twice.proofs.KeysAhead.{until-start, until-on, until-here, until_end}
 use Rattle.library_index_twice.proofs.tree.key_twice.Goals as goal
 
 pub loop-n-init : goal.loop-n-init

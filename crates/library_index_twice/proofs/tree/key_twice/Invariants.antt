@@ -1,11 +1,8 @@
 -- The ways lead to the keys ahead, so a key stood there just where they lead to it. Assumes nothing.
-use mathlib.Core.Path.{sym, ◌∙◌}
 use Prim.Native.Nat.{◌-◌}
-use native.Mathlib.Omega.{arith}
 use lib.ListN.{length}
 use Rattle.library_index_twice.specs.KeyTree.{Tree}
-use Rattle.library_index_twice.proofs.KeysAhead.{Until, until-start, until-on, until-here, until_end}
-use borrow.Author.Rules.{rules}
+use Rattle.library_index_twice.proofs.KeysAhead.{Until}
 use Rattle.library_index_twice.proofs.tree.key_twice.Given as goal
 
 abbrev pub invariant-loop-n : goal.invariant-loop-n

@@ -1,10 +1,9 @@
 use mathlib.Core.Path.{sym, ◌∙◌}
-use Prim.Native.Nat.{◌-◌, ◌<◌}
+use Prim.Native.Nat.{◌<◌}
 use native.Mathlib.Omega.{arith}
 use lib.ListN.{get_or, length-set}
-use Rattle.library_index_twice.specs.KeyTree.{way_of, Tree}
-use Rattle.library_index_twice.proofs.KeyWays.{Seeking, seek-start, seek-end, seek_found, seek-on, seek-put}
-use borrow.Author.Rules.{rules}
+use Rattle.library_index_twice.specs.KeyTree.{way_of}
+use Rattle.library_index_twice.proofs.KeyWays.{seek-start, seek-end, seek_found, seek-on, seek-put}
 use Rattle.library_index_twice.proofs.tree.stood.Goals as goal
 
 pub loop-at-init : goal.loop-at-init

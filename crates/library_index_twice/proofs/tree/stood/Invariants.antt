@@ -1,11 +1,7 @@
 -- A key's ways lead to where it stood, and where they end a way to it is added. Assumes nothing.
-use mathlib.Core.Path.{sym, ◌∙◌}
-use Prim.Native.Nat.{◌-◌, ◌<◌}
-use native.Mathlib.Omega.{arith}
-use lib.ListN.{get_or, length-set}
-use Rattle.library_index_twice.specs.KeyTree.{way_of, Tree}
-use Rattle.library_index_twice.proofs.KeyWays.{Seeking, seek-start, seek-end, seek_found, seek-on, seek-put}
-use borrow.Author.Rules.{rules}
+use Prim.Native.Nat.{◌-◌}
+use Rattle.library_index_twice.specs.KeyTree.{Tree}
+use Rattle.library_index_twice.proofs.KeyWays.{Seeking}
 use Rattle.library_index_twice.proofs.tree.stood.Given as goal
 
 abbrev pub invariant-loop-at : goal.invariant-loop-at

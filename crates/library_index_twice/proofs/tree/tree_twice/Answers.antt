@@ -1,6 +1,5 @@
 -- Ways that are all zero are those of no key. Assumes nothing.
 use Rattle.library_index_twice.proofs.KeyWays.{tree-none}
-use borrow.Author.Rules.{rules}
 use Rattle.library_index_twice.proofs.tree.tree_twice.Goals as goal
 
 pub key_twice-requires : goal.key_twice-requires

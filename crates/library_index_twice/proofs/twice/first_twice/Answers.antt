@@ -3,7 +3,6 @@ use mathlib.Core.Path.{sym, ap, ◌∙◌}
 use native.Mathlib.Omega.{arith}
 use lib.Seq.{length-take-le, take_all}
 use Rattle.library_index_twice.specs.Twice.{first_twice}
-use borrow.Author.Rules.{rules}
 use Rattle.library_index_twice.proofs.twice.first_twice.Goals as goal
 
 pub slice_bounds-twice_in-end : goal.slice_bounds-twice_in-end

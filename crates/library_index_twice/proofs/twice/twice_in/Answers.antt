@@ -1,5 +1,4 @@
 -- Where keys differ none stands twice, and else the tree has the answer. Assumes nothing.
-use borrow.Author.Rules.{rules}
 use Rattle.library_index_twice.proofs.twice.twice_in.Goals as goal
 
 pub returns-then-slots_differ : goal.returns-then-slots_differ

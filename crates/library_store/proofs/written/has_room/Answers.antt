@@ -1,7 +1,6 @@
 -- What is left behind the tables and the lower cards is enough for the upper ones exactly where all words fit.
 use native.Mathlib.Omega.{arith}
 use Rattle.library_store.proofs.StoredLibrary.{many-entries, many-decks, no_room_lem, room-left}
-use borrow.Author.Rules.{rules}
 use Rattle.library_store.proofs.written.has_room.Goals as goal
 
 pub returns-then-directory-ge-FIELD : goal.returns-then-directory-ge-FIELD

@@ -4,7 +4,6 @@ use mathlib.Core.Path.{◌∙◌, ap}
 use mathlib.Core.List.{List, ◌∷◌}
 use lib.ListN.{drop}
 use Rattle.words_lists.proofs.OverLists.{head-two}
-use borrow.Author.Rules.{rules}
 use Rattle.library_store.proofs.written.put_header.Goals as goal
 
 pub returns : goal.returns

@@ -5,7 +5,6 @@ use mathlib.Core.List.{List}
 use lib.ListN.{length}
 use Rattle.library_store.proofs.StoredLibrary.{library-written}
 use Rattle.words_lists.specs.Over.{over}
-use borrow.Author.Rules.{rules}
 use Rattle.library_store.proofs.written.put_library.Goals as goal
 
 pub returns : goal.returns

@@ -4,7 +4,6 @@ use mathlib.Core.Bool.{true, false}
 use lib.ListN.{length}
 use Rattle.library_store.specs.Stored.{has_room}
 use Rattle.library_store.proofs.StoredLibrary.{room-said, into-is, into-kept}
-use borrow.Author.Rules.{rules}
 use Rattle.library_store.proofs.written.write_library.Goals as goal
 
 pub put_library-requires : goal.put_library-requires

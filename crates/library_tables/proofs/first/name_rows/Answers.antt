@@ -6,7 +6,6 @@ use Rattle.library.specs.declared.Fault.TheVariants.{Tables, Name}
 use Rattle.library.specs.declared.Checked.TheVariants.{Sound}
 use Rattle.library_tables.proofs.TableCounts.{tabled}
 use Rattle.library_tables.proofs.FirstFault.{found_none, refused-at, refused-on}
-use borrow.Author.Rules.{rules}
 use Rattle.library_tables.proofs.first.name_rows.Goals as goal
 
 pub name_fault-requires : goal.name_fault-requires

@@ -5,7 +5,6 @@ use Rattle.library_tables.specs.Found.{refused_by, after_header, table_rows}
 use Rattle.library.specs.declared.Fault.TheVariants.{Size, Header}
 use Rattle.library_tables.proofs.TableCounts.{sized}
 use Rattle.library_tables.proofs.FirstFault.{found_none, refused-at, refused-on}
-use borrow.Author.Rules.{rules}
 use Rattle.library_tables.proofs.first.table_rows.Goals as goal
 
 pub header_fault-requires : goal.header_fault-requires

@@ -1,6 +1,5 @@
 -- Each way out is one of the tests of a word of the deck list. Assumes nothing.
 use mathlib.Core.Path.{sym, ap, ◌∙◌}
-use borrow.Author.Tests.{not-true, not-false}
 use lib.ListN.{get_or}
 use lib.Seq.{length-take-le}
 use Rattle.words.specs.Base.{is_nil}

@@ -1,13 +1,10 @@
 -- Up to each place every word is right, so the first wrong one of the whole is that of the rest. Assumes nothing.
-use mathlib.Core.Path.{◌≡◌, sym, ap, ◌∙◌}
+use mathlib.Core.Path.{◌≡◌}
 use Prim.Native.Nat.{◌-◌, ◌≤◌}
 use mathlib.Core.List.{[]}
-use borrow.Author.Tests.{not-true, not-false}
 use lib.ListN.{length}
 use Rattle.library.specs.Check.{first_bad, ok_deck_word}
-use Rattle.library_tables.specs.Found.{found}
-use Rattle.library_tables.proofs.TableWords.{bad_from, bad-start, bad-here, bad-on, bad-none}
-use borrow.Author.Rules.{rules}
+use Rattle.library_tables.proofs.TableWords.{bad_from}
 use Rattle.library_tables.proofs.tables.deck_words_fault.Given as goal
 
 abbrev pub invariant-loop-i : goal.invariant-loop-i

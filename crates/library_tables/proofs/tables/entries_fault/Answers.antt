@@ -1,11 +1,7 @@
-use mathlib.Core.Path.{◌≡◌, sym, ap, ◌∙◌}
-use Prim.Native.Nat.{◌-◌, ◌≤◌}
-use mathlib.Core.List.{[]}
-use borrow.Author.Tests.{not-true, not-false}
-use lib.ListN.{length}
-use Rattle.library.specs.Check.{first_bad, ok_entry}
+use mathlib.Core.Path.{sym, ap, ◌∙◌}
+use Rattle.library.specs.Check.{ok_entry}
 use Rattle.library_tables.specs.Found.{found}
-use Rattle.library_tables.proofs.TableWords.{bad_from, bad-start, bad-here, bad-on, bad-none}
+use Rattle.library_tables.proofs.TableWords.{bad-start, bad-here, bad-on, bad-none}
 use borrow.Author.Rules.{rules}
 use Rattle.library_tables.proofs.tables.entries_fault.Goals as goal
 

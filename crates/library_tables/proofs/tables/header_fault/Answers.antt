@@ -2,7 +2,6 @@
 use borrow.Author.Tests.{eq-eqb, ne_eqb}
 use mathlib.Core.Path.{sym, ◌∙◌}
 use Rattle.library.specs.Image.{header}
-use borrow.Author.Rules.{rules}
 use Rattle.library_tables.proofs.tables.header_fault.Goals as goal
 
 pub returns-then-image-header_word : goal.returns-then-image-header_word

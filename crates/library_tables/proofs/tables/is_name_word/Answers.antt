@@ -4,7 +4,6 @@ use Prim.Native.Nat.{ℕ}
 use mathlib.Core.Bool.{not}
 use lib.Dec.{eqb}
 use Rattle.library_tables.proofs.TableWords.{name-word}
-use borrow.Author.Rules.{rules}
 use Rattle.library_tables.proofs.tables.is_name_word.Goals as goal
 
 pub returns : goal.returns

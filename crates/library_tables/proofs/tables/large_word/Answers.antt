@@ -1,8 +1,5 @@
-use Prim.Native.Nat.{◌-◌, ◌≤◌}
-use mathlib.Core.Path.{◌≡◌, refl, sym, ap, ◌∙◌}
-use lib.ListN.{length, drop}
+use mathlib.Core.Path.{refl, sym, ap, ◌∙◌}
 use borrow.Author.Tests.{lt-ltb, le-ltb}
-use Rattle.words.specs.Base.{place_from}
 use Rattle.library_tables.specs.Found.{found, not_word}
 use Rattle.library.proofs.FirstPlace.{place_here, place-on, place_none}
 use mathlib.Core.Bool.{not}

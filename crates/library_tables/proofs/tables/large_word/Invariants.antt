@@ -1,13 +1,9 @@
 -- Up to each place every word has 60 bits, so the search of the whole is that of the rest. Assumes nothing.
 use Prim.Native.Nat.{◌-◌, ◌≤◌}
-use mathlib.Core.Path.{◌≡◌, refl, sym, ap, ◌∙◌}
+use mathlib.Core.Path.{◌≡◌}
 use lib.ListN.{length, drop}
-use borrow.Author.Tests.{lt-ltb, le-ltb}
 use Rattle.words.specs.Base.{place_from}
-use Rattle.library_tables.specs.Found.{found, not_word}
-use Rattle.library.proofs.FirstPlace.{place_here, place-on, place_none}
-use mathlib.Core.Bool.{not}
-use borrow.Author.Rules.{rules}
+use Rattle.library_tables.specs.Found.{not_word}
 use Rattle.library_tables.proofs.tables.large_word.Given as goal
 
 abbrev pub invariant-loop-i : goal.invariant-loop-i

@@ -1,7 +1,6 @@
 -- The parts that are lent are the directory and the deck list, and the directory comes first. Assumes nothing.
 use mathlib.Core.Path.{sym, ◌∙◌}
 use Rattle.library_tables.proofs.TableWords.{row4-entry, row4-deck}
-use borrow.Author.Rules.{rules}
 use Rattle.library_tables.proofs.tables.name_fault.Goals as goal
 
 pub returns-in-At : goal.returns-in-At

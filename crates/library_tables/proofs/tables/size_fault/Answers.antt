@@ -1,6 +1,5 @@
 -- The lengths are tested ahead of the words. Assumes nothing.
 use borrow.Author.Tests.{lt-ltb, le-ltb}
-use borrow.Author.Rules.{rules}
 use Rattle.library_tables.proofs.tables.size_fault.Goals as goal
 
 pub returns-then-n-lt-LEAST_WORDS : goal.returns-then-n-lt-LEAST_WORDS

@@ -1,10 +1,8 @@
-use mathlib.Core.Path.{◌≡◌, refl, sym, ap, ◌∙◌}
+use mathlib.Core.Path.{refl, sym, ap, ◌∙◌}
 use native.Mathlib.Omega.{arith}
-use Prim.Native.Nat.{ℕ, ◌≤◌}
-use lib.ListN.{length}
-use Rattle.library_yanks.specs.Flags.{from_top, top}
+use Prim.Native.Nat.{ℕ}
+use Rattle.library_yanks.specs.Flags.{from_top}
 use Rattle.library_yanks.proofs.Chaining.{top-more, top-end}
-use borrow.Author.Rules.{rules}
 use Rattle.library_yanks.proofs.flags.act_down.Goals as goal
 
 pub loop-n-init : goal.loop-n-init

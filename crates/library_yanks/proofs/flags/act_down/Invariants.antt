@@ -1,11 +1,8 @@
 -- The owners left, from the highest down, do what is still to do.
-use mathlib.Core.Path.{◌≡◌, refl, sym, ap, ◌∙◌}
-use native.Mathlib.Omega.{arith}
-use Prim.Native.Nat.{ℕ, ◌≤◌}
+use mathlib.Core.Path.{◌≡◌}
+use Prim.Native.Nat.{◌≤◌}
 use lib.ListN.{length}
 use Rattle.library_yanks.specs.Flags.{from_top, top}
-use Rattle.library_yanks.proofs.Chaining.{top-more, top-end}
-use borrow.Author.Rules.{rules}
 use Rattle.library_yanks.proofs.flags.act_down.Given as goal
 
 abbrev pub invariant-loop-n : goal.invariant-loop-n

@@ -1,9 +1,7 @@
-use mathlib.Core.Path.{◌≡◌, refl, ◌∙◌}
+use mathlib.Core.Path.{refl, ◌∙◌}
 use native.Mathlib.Omega.{arith}
-use lib.ListN.{length}
-use Rattle.library_yanks.specs.Flags.{backward, owned, acted_all}
-use Rattle.library_yanks.proofs.Chaining.{Following, follow-start, follow-next, follow-end}
-use borrow.Author.Rules.{rules}
+use Rattle.library_yanks.specs.Flags.{backward, owned}
+use Rattle.library_yanks.proofs.Chaining.{follow-start, follow-next, follow-end}
 use Rattle.library_yanks.proofs.flags.act_owner.Goals as goal
 
 pub loop-s-init : goal.loop-s-init

@@ -1,10 +1,8 @@
 -- The cards left, along their links, do what is still to do.
-use mathlib.Core.Path.{◌≡◌, refl, ◌∙◌}
-use native.Mathlib.Omega.{arith}
+use mathlib.Core.Path.{◌≡◌}
 use lib.ListN.{length}
 use Rattle.library_yanks.specs.Flags.{backward, owned, acted_all}
-use Rattle.library_yanks.proofs.Chaining.{Following, follow-start, follow-next, follow-end}
-use borrow.Author.Rules.{rules}
+use Rattle.library_yanks.proofs.Chaining.{Following}
 use Rattle.library_yanks.proofs.flags.act_owner.Given as goal
 
 abbrev pub invariant-loop-s : goal.invariant-loop-s

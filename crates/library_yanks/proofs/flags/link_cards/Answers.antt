@@ -1,9 +1,7 @@
-use mathlib.Core.Path.{◌≡◌, refl, ◌∙◌}
-use Prim.Native.Nat.{◌-◌}
+use mathlib.Core.Path.{refl, ◌∙◌}
 use native.Mathlib.Omega.{arith}
 use lib.ListN.{length}
-use Rattle.library_yanks.proofs.Chaining.{Linking, link_start, link-more, link-end}
-use borrow.Author.Rules.{rules}
+use Rattle.library_yanks.proofs.Chaining.{link_start, link-more, link-end}
 use Rattle.library_yanks.proofs.flags.link_cards.Goals as goal
 
 pub loop-at-init : goal.loop-at-init

@@ -1,10 +1,8 @@
 -- The cards passed are linked by their owners.
-use mathlib.Core.Path.{◌≡◌, refl, ◌∙◌}
+use mathlib.Core.Path.{◌≡◌}
 use Prim.Native.Nat.{◌-◌}
-use native.Mathlib.Omega.{arith}
 use lib.ListN.{length}
-use Rattle.library_yanks.proofs.Chaining.{Linking, link_start, link-more, link-end}
-use borrow.Author.Rules.{rules}
+use Rattle.library_yanks.proofs.Chaining.{Linking}
 use Rattle.library_yanks.proofs.flags.link_cards.Given as goal
 
 abbrev pub invariant-loop-at : goal.invariant-loop-at

@@ -3,7 +3,6 @@ use lib.ListN.{set}
 use lib.Seq.{set_out}
 use native.Mathlib.Numerals.{add-one}
 use mathlib.Core.Path.{sym, ap}
-use borrow.Author.Rules.{rules}
 use Rattle.library_yanks.proofs.flags.put_link.Goals as goal
 
 pub returns-then-first-owner : goal.returns-then-first-owner

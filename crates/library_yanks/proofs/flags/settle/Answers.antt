@@ -7,7 +7,6 @@ use lib.ListN.{length, take, replicate}
 use lib.Seq.{length-take-le}
 use Rattle.library_yanks.specs.Flags.{from_top, top, settled_flags}
 use Rattle.library_yanks.proofs.Chaining.{taken-words}
-use borrow.Author.Rules.{rules}
 use Rattle.library_yanks.proofs.flags.settle.Goals as goal
 
 pub slice_bounds-settle_within-end : goal.slice_bounds-settle_within-end

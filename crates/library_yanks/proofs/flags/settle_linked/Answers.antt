@@ -3,7 +3,6 @@ use mathlib.Core.Path.{◌∙◌}
 use lib.ListN.{length}
 use Rattle.library_yanks.specs.Flags.{top}
 use Rattle.library_yanks.proofs.Chaining.{top_start}
-use borrow.Author.Rules.{rules}
 use Rattle.library_yanks.proofs.flags.settle_linked.Goals as goal
 
 pub act_down-requires : goal.act_down-requires

@@ -1,7 +1,6 @@
 -- The places are as many as the words of cards may be. Assumes nothing.
 use Prim.Native.Nat.{ℕ}
 use lib.ListN.{length-replicate}
-use borrow.Author.Rules.{rules}
 use Rattle.library_yanks.proofs.flags.settle_many.Goals as goal
 
 pub settle_linked-requires : goal.settle_linked-requires

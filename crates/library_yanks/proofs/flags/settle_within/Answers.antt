@@ -3,7 +3,6 @@ use mathlib.Core.Path.{sym, subst}
 use native.Mathlib.Omega.{arith}
 use Rattle.library_index.specs.Names.{Knows}
 use Rattle.library_index.proofs.NameTree.{planted-entry}
-use borrow.Author.Rules.{rules}
 use Rattle.library_yanks.proofs.flags.settle_within.Goals as goal
 
 pub settle_few-requires : goal.settle_few-requires

@@ -1,8 +1,5 @@
-use mathlib.Core.Path.{◌≡◌, sym, ◌∙◌}
-use Prim.Native.Nat.{◌≤◌, ◌-◌}
-use mathlib.Core.Bool.{false}
-use Rattle.library.specs.Check.{threes, raw_bytes}
-use Rattle.library_yanks.specs.Bytes.{part, flagged, say_all}
+use mathlib.Core.Path.{sym, ◌∙◌}
+use Rattle.library_yanks.specs.Bytes.{flagged}
 use Rattle.library_yanks.proofs.Weighing.{active-start, active_on, active-end}
 use borrow.Author.Rules.{rules}
 use Rattle.library_yanks.proofs.force.active_in.Goals as goal

@@ -1,11 +1,9 @@
 -- What the words passed say is carried to those left. Assumes nothing.
-use mathlib.Core.Path.{◌≡◌, sym, ◌∙◌}
+use mathlib.Core.Path.{◌≡◌}
 use Prim.Native.Nat.{◌≤◌, ◌-◌}
 use mathlib.Core.Bool.{false}
 use Rattle.library.specs.Check.{threes, raw_bytes}
 use Rattle.library_yanks.specs.Bytes.{part, flagged, say_all}
-use Rattle.library_yanks.proofs.Weighing.{active-start, active_on, active-end}
-use borrow.Author.Rules.{rules}
 use Rattle.library_yanks.proofs.force.active_in.Given as goal
 
 abbrev pub invariant-loop-i : goal.invariant-loop-i

@@ -6,7 +6,6 @@ use mathlib.Core.List.{List}
 use Rattle.library.specs.Check.{raw_bytes}
 use Rattle.library_yanks.specs.Bytes.{part, flagged, say_all}
 use Rattle.library_yanks.proofs.Weighing.{part_none, part-least}
-use borrow.Author.Rules.{rules}
 use Rattle.library_yanks.proofs.force.is_active.Goals as goal
 
 pub returns-then-end-at : goal.returns-then-end-at

@@ -2,7 +2,6 @@
 use mathlib.Core.Path.{sym, ◌∙◌}
 use Rattle.library_yanks.proofs.Weighing.{byte-none, byte-yanked, byte-says}
 use Rattle.library_yanks.specs.Bytes.{flagged}
-use borrow.Author.Rules.{rules}
 use Rattle.library_yanks.proofs.force.say_byte.Goals as goal
 
 pub returns-then-b-eq0 : goal.returns-then-b-eq0

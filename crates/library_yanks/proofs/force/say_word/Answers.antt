@@ -3,7 +3,6 @@ use mathlib.Core.Path.{ap, ◌∙◌}
 use Prim.Native.Nat.{◌/◌, ◌%◌, ◌^◌}
 use mathlib.Core.Bool.{Bool}
 use Rattle.library_yanks.specs.Bytes.{flagged, say_byte}
-use borrow.Author.Rules.{rules}
 use Rattle.library_yanks.proofs.force.say_word.Goals as goal
 
 pub returns : goal.returns

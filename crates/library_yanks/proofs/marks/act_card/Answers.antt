@@ -9,7 +9,6 @@ use Rattle.library.specs.declared.Seen.{Seen}
 use Rattle.library_image.specs.Places.{line_in}
 use Rattle.library_yanks.specs.Flags.{in_force, names_in, marked}
 use Rattle.library_yanks.proofs.Marking.{act-on, act-off}
-use borrow.Author.Rules.{rules}
 use Rattle.library_yanks.proofs.marks.act_card.Goals as goal
 
 pub mark_text-requires : goal.mark_text-requires

@@ -7,7 +7,6 @@ use Rattle.words_lines.specs.Directive.{params}
 use Rattle.library.specs.Yanks.{is_yank}
 use Rattle.library_yanks.specs.Flags.{marked}
 use Rattle.library_yanks.proofs.Marking.{names-yank, names-other}
-use borrow.Author.Rules.{rules}
 use Rattle.library_yanks.proofs.marks.mark_line.Goals as goal
 
 pub mark_names-requires : goal.mark_names-requires

@@ -1,9 +1,7 @@
-use mathlib.Core.Path.{◌≡◌, refl, sym, ◌∙◌}
-use Prim.Native.Nat.{◌+◌, ◌-◌, ◌≤◌}
+use mathlib.Core.Path.{refl, sym, ◌∙◌}
 use native.Mathlib.Omega.{arith}
-use lib.ListN.{length}
 use Rattle.words_lines.proofs.FieldNames.{step-name}
-use Rattle.library_yanks.proofs.Marking.{Marking, mark-start, mark-more, mark-end}
+use Rattle.library_yanks.proofs.Marking.{mark-start, mark-more, mark-end}
 use borrow.Author.Rules.{rules}
 use Rattle.library_yanks.proofs.marks.mark_names.Goals as goal
 

@@ -1,11 +1,8 @@
 -- The names passed are marked, those left are still to come.
-use mathlib.Core.Path.{◌≡◌, refl, sym, ◌∙◌}
+use mathlib.Core.Path.{◌≡◌}
 use Prim.Native.Nat.{◌+◌, ◌-◌, ◌≤◌}
-use native.Mathlib.Omega.{arith}
 use lib.ListN.{length}
-use Rattle.words_lines.proofs.FieldNames.{step-name}
-use Rattle.library_yanks.proofs.Marking.{Marking, mark-start, mark-more, mark-end}
-use borrow.Author.Rules.{rules}
+use Rattle.library_yanks.proofs.Marking.{Marking}
 use Rattle.library_yanks.proofs.marks.mark_names.Given as goal
 
 abbrev pub invariant-loop-word : goal.invariant-loop-word

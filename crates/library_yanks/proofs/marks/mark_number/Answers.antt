@@ -1,6 +1,5 @@
 -- A number with a flag has it set, any other leaves all.
 use Rattle.library_yanks.proofs.Marking.{mark-none, mark-out, mark_set}
-use borrow.Author.Rules.{rules}
 use Rattle.library_yanks.proofs.marks.mark_number.Goals as goal
 
 pub returns-then-n-eq0 : goal.returns-then-n-eq0

@@ -5,7 +5,6 @@ use Prim.Native.Nat.{ℕ}
 use lib.Seq.{length-take-le}
 use Rattle.library_yanks.specs.Flags.{names_in, marked}
 use Rattle.library_image.proofs.CardPlaces.{line_taken}
-use borrow.Author.Rules.{rules}
 use Rattle.library_yanks.proofs.marks.mark_text.Goals as goal
 
 pub slice_bounds-line-end : goal.slice_bounds-line-end

@@ -1,11 +1,8 @@
-use Prim.Native.Nat.{◌+◌, ◌-◌, ◌≤◌}
 use native.Mathlib.Omega.{arith}
-use mathlib.Core.Path.{◌≡◌, ap}
+use mathlib.Core.Path.{ap}
 use lib.ListN.{length}
-use Rattle.library_image.specs.Places.{places_in}
 use Rattle.library_image.proofs.CardPlaces.{places-end}
 use Rattle.merge.proofs.CardCount.{count-on}
-use borrow.Author.Rules.{rules}
 use Rattle.merge.proofs.counted.count_cards.Goals as goal
 
 pub loop-at-init : goal.loop-at-init

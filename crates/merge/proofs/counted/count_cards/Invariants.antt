@@ -1,12 +1,8 @@
 -- Each card seen is one of those that stand from its place on.
 use Prim.Native.Nat.{◌+◌, ◌-◌, ◌≤◌}
-use native.Mathlib.Omega.{arith}
-use mathlib.Core.Path.{◌≡◌, ap}
+use mathlib.Core.Path.{◌≡◌}
 use lib.ListN.{length}
 use Rattle.library_image.specs.Places.{places_in}
-use Rattle.library_image.proofs.CardPlaces.{places-end}
-use Rattle.merge.proofs.CardCount.{count-on}
-use borrow.Author.Rules.{rules}
 use Rattle.merge.proofs.counted.count_cards.Given as goal
 
 abbrev pub invariant-loop-at : goal.invariant-loop-at

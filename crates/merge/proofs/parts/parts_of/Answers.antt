@@ -2,7 +2,6 @@
 use mathlib.Core.Path.{ap, ◌∙◌}
 use Prim.Native.Nat.{◌+◌}
 use Rattle.library_image_decks.specs.Decks.{deck_end}
-use borrow.Author.Rules.{rules}
 use Rattle.merge.proofs.parts.parts_of.Goals as goal
 
 pub returns : goal.returns

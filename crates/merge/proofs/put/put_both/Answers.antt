@@ -4,7 +4,6 @@ use Prim.Native.Nat.{◌+◌}
 use lib.ListN.{length}
 use Rattle.words_lists.specs.Over.{over}
 use Rattle.words_lists.proofs.OverLists.{over-then}
-use borrow.Author.Rules.{rules}
 use Rattle.merge.proofs.put.put_both.Goals as goal
 
 pub returns : goal.returns

@@ -7,7 +7,6 @@ use lib.ListN.{length, take, drop}
 use Rattle.library_raise.specs.Raised.{raised_words}
 use Rattle.words_lists.specs.Over.{put_at}
 use Rattle.merge.proofs.MergedLayout.{yanks-part, decks-part, yanks-long, cards-laid}
-use borrow.Author.Rules.{rules}
 use Rattle.merge.proofs.put.put_cards.Goals as goal
 
 pub put_raised-requires : goal.put_raised-requires

@@ -1,6 +1,5 @@
 -- Both words are written over the first two.
 use Rattle.words_lists.proofs.OverLists.{head-two}
-use borrow.Author.Rules.{rules}
 use Rattle.merge.proofs.put.put_counts.Goals as goal
 
 pub returns : goal.returns

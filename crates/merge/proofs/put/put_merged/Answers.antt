@@ -6,7 +6,6 @@ use lib.ListN.{length}
 use Rattle.merge.specs.Words.{tables_of, merged_cards, merged_words}
 use Rattle.words_lists.specs.Over.{put_at}
 use Rattle.merge.proofs.PutStretches.{put_last}
-use borrow.Author.Rules.{rules}
 use Rattle.merge.proofs.put.put_merged.Goals as goal
 
 pub returns : goal.returns

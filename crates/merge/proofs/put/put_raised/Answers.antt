@@ -4,7 +4,6 @@ use Prim.Native.Nat.{ℕ, ◌+◌}
 use lib.ListN.{length}
 use Rattle.merge.specs.Words.{raised_part}
 use Rattle.merge.proofs.PutStretches.{put-raised}
-use borrow.Author.Rules.{rules}
 use Rattle.merge.proofs.put.put_raised.Goals as goal
 
 pub returns : goal.returns

@@ -6,7 +6,6 @@ use lib.ListN.{take, drop}
 use Rattle.merge.specs.Words.{header_of}
 use Rattle.words_lists.specs.Over.{put_at}
 use Rattle.merge.proofs.MergedLayout.{directory-part, list-part, rest_part, tables-laid}
-use borrow.Author.Rules.{rules}
 use Rattle.merge.proofs.put.put_tables.Goals as goal
 
 pub returns : goal.returns

@@ -2,7 +2,6 @@
 use mathlib.Core.List.{◌++◌}
 use lib.ListN.{take}
 use borrow.Rule.Slice.PartMut.{Post-is}
-use borrow.Author.Rules.{rules}
 use Rattle.merge.proofs.put.raise_part.Goals as goal
 
 pub returns : goal.returns

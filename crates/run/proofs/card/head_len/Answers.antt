@@ -1,10 +1,9 @@
-use Prim.Native.Nat.{suc, ◌+◌, ◌-◌, ◌≤◌, ◌<◌}
+use Prim.Native.Nat.{suc, ◌+◌, ◌<◌}
 use mathlib.Core.Path.{◌≡◌}
 use native.Mathlib.Omega.{arith}
 use lib.ListN.{length, drop}
 use Rattle.run.specs.CardHeads.{head_len}
 use Rattle.run.proofs.Heads.{len-end, len_more, len-none}
-use borrow.Author.Rules.{rules}
 use Rattle.run.proofs.card.head_len.Goals as goal
 
 pub returns-then-w-i-ge-LAST : goal.returns-then-w-i-ge-LAST

@@ -1,11 +1,8 @@
 -- The loop stops at the first word with bit 59, or at the end: at each step what is still to count is the heads from there on.
-use Prim.Native.Nat.{suc, ◌+◌, ◌-◌, ◌≤◌, ◌<◌}
+use Prim.Native.Nat.{◌+◌, ◌-◌, ◌≤◌}
 use mathlib.Core.Path.{◌≡◌}
-use native.Mathlib.Omega.{arith}
 use lib.ListN.{length, drop}
 use Rattle.run.specs.CardHeads.{head_len}
-use Rattle.run.proofs.Heads.{len-end, len_more, len-none}
-use borrow.Author.Rules.{rules}
 use Rattle.run.proofs.card.head_len.Given as goal
 
 abbrev pub invariant-loop-i : goal.invariant-loop-i

@@ -1,6 +1,5 @@
 -- 64 bytes fill 22 heads: a history of fewer heads is shorter, and one of 22 is full where the last word's third byte is used.
 use Rattle.run.proofs.Fullness.{full-few, full-left, full-none}
-use borrow.Author.Rules.{rules}
 use Rattle.run.proofs.card.is_full.Goals as goal
 
 pub returns-then-heads-lt-MOST_HEADS : goal.returns-then-heads-lt-MOST_HEADS

@@ -4,7 +4,6 @@ use native.Mathlib.Omega.{arith}
 use mathlib.Core.Path.{sym, ◌∙◌}
 use lib.Seq.{length-take-le}
 use Rattle.run.proofs.Writing.{finish-crowded, finish-written}
-use borrow.Author.Rules.{rules}
 use Rattle.run.proofs.carry.finish.Goals as goal
 
 pub slice_bounds-write_library-end : goal.slice_bounds-write_library-end

@@ -2,7 +2,6 @@
 use native.Mathlib.Omega.{arith}
 use mathlib.Core.Bool.{true, false}
 use mathlib.Core.Path.{sym, ◌∙◌}
-use borrow.Author.Rules.{rules}
 use Rattle.run.proofs.Stepping.{fitted-no, fitted-counts}
 use Rattle.run.proofs.desk.limited.Goals as goal
 

@@ -1,7 +1,6 @@
 -- The number is 1 and the flag is there and not 0, or it is no deck card.
 use native.Mathlib.Omega.{arith}
 use mathlib.Core.Path.{sym}
-use borrow.Author.Rules.{rules}
 use Rattle.run.proofs.Correcting.{title-other, title-clear, title-set}
 use Rattle.run.proofs.TitleWalk.{title-out}
 use Rattle.run.proofs.fixes.is_title.Goals as goal

@@ -1,8 +1,6 @@
-use Prim.Native.Nat.{◌-◌, ◌≤◌}
 use mathlib.Core.Path.{◌≡◌, ◌∙◌}
 use native.Mathlib.Omega.{arith}
-use lib.ListN.{length, length-set}
-use Rattle.run.specs.GapWords.{Lowered}
+use lib.ListN.{length-set}
 use Rattle.run.proofs.GapSteps.{lower-start, lower-more}
 use borrow.Author.Rules.{rules}
 use Rattle.run.proofs.gap.lower.Goals as goal

@@ -1,11 +1,8 @@
 -- Word by word from the lowest up, what is read above the gap has not been written yet.
 use Prim.Native.Nat.{◌-◌, ◌≤◌}
-use mathlib.Core.Path.{◌≡◌, ◌∙◌}
-use native.Mathlib.Omega.{arith}
-use lib.ListN.{length, length-set}
+use mathlib.Core.Path.{◌≡◌}
+use lib.ListN.{length}
 use Rattle.run.specs.GapWords.{Lowered}
-use Rattle.run.proofs.GapSteps.{lower-start, lower-more}
-use borrow.Author.Rules.{rules}
 use Rattle.run.proofs.gap.lower.Given as goal
 
 abbrev pub invariant-loop-i : goal.invariant-loop-i

@@ -1,8 +1,7 @@
-use Prim.Native.Nat.{◌+◌, ◌-◌, ◌≤◌}
+use Prim.Native.Nat.{◌+◌, ◌-◌}
 use mathlib.Core.Path.{◌≡◌, ◌∙◌}
 use native.Mathlib.Omega.{arith}
-use lib.ListN.{length, get_or, length-set}
-use Rattle.run.specs.GapWords.{Raised}
+use lib.ListN.{get_or, length-set}
 use Rattle.run.proofs.GapSteps.{raise-start, raise-more}
 use borrow.Author.Rules.{rules}
 use Rattle.run.proofs.gap.raise.Goals as goal

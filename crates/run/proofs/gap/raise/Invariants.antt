@@ -1,11 +1,8 @@
 -- Word by word from the highest down, what is read below the gap has not been written yet.
-use Prim.Native.Nat.{◌+◌, ◌-◌, ◌≤◌}
-use mathlib.Core.Path.{◌≡◌, ◌∙◌}
-use native.Mathlib.Omega.{arith}
-use lib.ListN.{length, get_or, length-set}
+use Prim.Native.Nat.{◌-◌, ◌≤◌}
+use mathlib.Core.Path.{◌≡◌}
+use lib.ListN.{length}
 use Rattle.run.specs.GapWords.{Raised}
-use Rattle.run.proofs.GapSteps.{raise-start, raise-more}
-use borrow.Author.Rules.{rules}
 use Rattle.run.proofs.gap.raise.Given as goal
 
 abbrev pub invariant-loop-i : goal.invariant-loop-i

@@ -1,7 +1,6 @@
-use Prim.Native.Nat.{◌-◌, ◌≤◌}
 use mathlib.Core.Path.{refl, sym, ◌∙◌}
 use native.Mathlib.Omega.{arith}
-use Rattle.run.proofs.Titling.{Passes, pass-start, pass-found, pass_on, pass-end}
+use Rattle.run.proofs.Titling.{pass-start, pass-found, pass_on, pass-end}
 use borrow.Author.Rules.{rules}
 use Rattle.run.proofs.load.first_title.Goals as goal
 

@@ -1,9 +1,6 @@
 -- The walk goes from card to card; the first deck card is answered, and no card passed was one.
 use Prim.Native.Nat.{◌-◌, ◌≤◌}
-use mathlib.Core.Path.{refl, sym, ◌∙◌}
-use native.Mathlib.Omega.{arith}
-use Rattle.run.proofs.Titling.{Passes, pass-start, pass-found, pass_on, pass-end}
-use borrow.Author.Rules.{rules}
+use Rattle.run.proofs.Titling.{Passes}
 use Rattle.run.proofs.load.first_title.Given as goal
 
 abbrev pub invariant-loop-at : goal.invariant-loop-at

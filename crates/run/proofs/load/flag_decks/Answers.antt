@@ -1,10 +1,9 @@
-use Prim.Native.Nat.{◌-◌}
 use native.Mathlib.Omega.{arith}
 use mathlib.Core.Path.{◌≡◌, refl, ◌∙◌}
 use lib.ListN.{length, take, length-set}
 use Rattle.library.specs.Library.{entry_of}
 use Rattle.run.specs.Loaded.{listed_numbers}
-use Rattle.run.proofs.Flagging.{StillFlags, no-flags, flag-start, flag-more, flag-end}
+use Rattle.run.proofs.Flagging.{no-flags, flag-start, flag-more, flag-end}
 use borrow.Author.Rules.{rules}
 use Rattle.run.proofs.load.flag_decks.Goals as goal
 

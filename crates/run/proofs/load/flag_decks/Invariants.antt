@@ -1,12 +1,10 @@
 -- What is flagged and the numbers of the names still to do are together the numbers of the list.
 use Prim.Native.Nat.{◌-◌}
-use native.Mathlib.Omega.{arith}
-use mathlib.Core.Path.{◌≡◌, refl, ◌∙◌}
-use lib.ListN.{length, take, length-set}
+use mathlib.Core.Path.{◌≡◌}
+use lib.ListN.{length, take}
 use Rattle.library.specs.Library.{entry_of}
 use Rattle.run.specs.Loaded.{listed_numbers}
-use Rattle.run.proofs.Flagging.{StillFlags, no-flags, flag-start, flag-more, flag-end}
-use borrow.Author.Rules.{rules}
+use Rattle.run.proofs.Flagging.{StillFlags}
 use Rattle.run.proofs.load.flag_decks.Given as goal
 
 abbrev pub invariant-loop-i : goal.invariant-loop-i

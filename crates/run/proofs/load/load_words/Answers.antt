@@ -3,7 +3,6 @@ use Prim.Native.Nat.{◌+◌}
 use native.Mathlib.Omega.{arith}
 use mathlib.Core.Path.{◌∙◌}
 use Rattle.run.proofs.Loading.{copied-part, copied-rest}
-use borrow.Author.Rules.{rules}
 use Rattle.run.proofs.load.load_words.Goals as goal
 
 pub returns : goal.returns

@@ -3,7 +3,6 @@ use Prim.Native.Nat.{◌-◌}
 use native.Mathlib.Omega.{arith}
 use lib.ListN.{get_or, length-set}
 use Rattle.run.proofs.GapSteps.{last-second, last-third, last-full, add-one-word, add-two-words, add-no-room}
-use borrow.Author.Rules.{rules}
 use Rattle.run.proofs.marks.add_byte.Goals as goal
 
 pub returns-then-l-eq0-2 : goal.returns-then-l-eq0-2

@@ -1,9 +1,6 @@
-use Prim.Native.Nat.{◌-◌}
-use mathlib.Core.Path.{◌≡◌, refl, ◌∙◌}
+use mathlib.Core.Path.{refl, ◌∙◌}
 use native.Mathlib.Omega.{arith}
-use lib.ListN.{length}
-use Rattle.run.specs.GapWords.{Ordered}
-use Rattle.run.proofs.Ranging.{Lefts, range-start, range-more, range-crowded, range-end}
+use Rattle.run.proofs.Ranging.{range-start, range-more, range-crowded, range-end}
 use borrow.Author.Rules.{rules}
 use Rattle.run.proofs.marks.mark_range.Goals as goal
 

@@ -1,11 +1,9 @@
 -- Card after card passes the gap; a card that finds no room shows that the range has none, for a mark never shortens.
 use Prim.Native.Nat.{◌-◌}
-use mathlib.Core.Path.{◌≡◌, refl, ◌∙◌}
-use native.Mathlib.Omega.{arith}
+use mathlib.Core.Path.{◌≡◌}
 use lib.ListN.{length}
 use Rattle.run.specs.GapWords.{Ordered}
-use Rattle.run.proofs.Ranging.{Lefts, range-start, range-more, range-crowded, range-end}
-use borrow.Author.Rules.{rules}
+use Rattle.run.proofs.Ranging.{Lefts}
 use Rattle.run.proofs.marks.mark_range.Given as goal
 
 abbrev pub invariant-loop-hi : goal.invariant-loop-hi

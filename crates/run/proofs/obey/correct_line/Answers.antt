@@ -3,7 +3,6 @@ use native.Mathlib.Omega.{arith}
 use mathlib.Core.Path.{◌∙◌}
 use Rattle.run.specs.Streamed.{in_arrays}
 use Rattle.run.proofs.Obeying.{outside-obeys, long-obeys, malformed-obeys, last-obeys, insert-obeys, before-obeys, delete-obeys, restore-obeys, yank-obeys}
-use borrow.Author.Rules.{rules}
 use Rattle.run.proofs.obey.correct_line.Goals as goal
 
 pub insert_step-requires : goal.insert_step-requires

@@ -2,12 +2,11 @@
 use native.Mathlib.Omega.{arith}
 use mathlib.Core.Logic.{⊎_elim}
 use mathlib.Core.Bool.{Bool, true, false}
-use mathlib.Core.Path.{◌≡◌, sym, ap, ◌∙◌}
+use mathlib.Core.Path.{◌≡◌, sym, ◌∙◌}
 use Rattle.words_lines.specs.Directive.{directive}
 use Rattle.run.specs.Obeyed.{asks_deck}
 use Rattle.run.specs.Streamed.{in_arrays}
 use Rattle.run.proofs.Obeying.{skipped-obeys, text-obeys, ident-obeys, deck-obeys, others-correct}
-use borrow.Author.Rules.{rules}
 use borrow.Enum.Refused.{opened}
 use Rattle.run.proofs.obey.obey_line.Goals as goal
 

@@ -6,7 +6,6 @@ use lib.Seq.{length-take-le}
 use mir.Facts.{Fits-lit}
 use Rattle.run.proofs.Sums.{bytes_fit, order-on, head-fits, text-fits, text-near, head-below, count_fits, with-count, number_fits_lem, with_number, with-flag, with-owner}
 use Rattle.run.proofs.Putting.{new_head, put-none, put-copied, work-put}
-use borrow.Author.Rules.{rules}
 use Rattle.run.proofs.put.put_card.Goals as goal
 
 pub overflow_add-lo : goal.overflow_add-lo

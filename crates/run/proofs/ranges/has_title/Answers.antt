@@ -1,8 +1,6 @@
-use Prim.Native.Nat.{◌≤◌}
 use native.Mathlib.Omega.{arith}
 use mathlib.Core.Path.{sym, ◌∙◌}
-use borrow.Author.Rules.{rules}
-use Rattle.run.proofs.TitleWalk.{Rests, rest-start, rest-done, rest_end, rest-found, rest-on}
+use Rattle.run.proofs.TitleWalk.{rest-start, rest-done, rest_end, rest-found, rest-on}
 use Rattle.run.proofs.ranges.has_title.Goals as goal
 
 pub loop-left-init : goal.loop-left-init

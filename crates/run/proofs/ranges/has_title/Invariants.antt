@@ -1,9 +1,6 @@
 -- The walk goes from card to card, and the answer for what is left is the answer for the range.
 use Prim.Native.Nat.{◌≤◌}
-use native.Mathlib.Omega.{arith}
-use mathlib.Core.Path.{sym, ◌∙◌}
-use borrow.Author.Rules.{rules}
-use Rattle.run.proofs.TitleWalk.{Rests, rest-start, rest-done, rest_end, rest-found, rest-on}
+use Rattle.run.proofs.TitleWalk.{Rests}
 use Rattle.run.proofs.ranges.has_title.Given as goal
 
 abbrev pub invariant-loop-left : goal.invariant-loop-left

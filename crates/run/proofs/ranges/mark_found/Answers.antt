@@ -4,7 +4,6 @@ use native.Mathlib.Omega.{arith}
 use mathlib.Core.Path.{◌≡◌, sym, ◌∙◌, subst}
 use mathlib.Core.Bool.{true, false}
 use lib.ListN.{length}
-use borrow.Author.Rules.{rules}
 use Rattle.run.specs.GapWords.{Ordered}
 use Rattle.run.specs.Work.{KeepsOrder}
 use Rattle.run.specs.RangeSteps.{HasTitle}

@@ -1,6 +1,5 @@
 -- Outside a set 24, a card that is not found 28, a range backwards 29; else the range that was found is marked.
 use mathlib.Core.Path.{refl}
-use borrow.Author.Rules.{rules}
 use Rattle.run.proofs.Correcting.{not_taken, not_left}
 use Rattle.run.proofs.RangeAsking.{mark-off, mark-no-first, mark-no-last, mark-backwards, mark_on}
 use Rattle.run.proofs.ranges.mark_step.Goals as goal

@@ -2,7 +2,6 @@
 use Prim.Native.Nat.{◌+◌, ◌≤◌}
 use native.Mathlib.Omega.{arith}
 use mathlib.Core.Path.{refl, sym, ap, ◌∙◌, subst}
-use borrow.Author.Rules.{rules}
 use Rattle.run.specs.Desk.{fitted, SaneAfter, moved_desk}
 use Rattle.run.specs.declared.desk.Desk.{Desk}
 use Rattle.run.proofs.Stepping.{fitted-sane}

@@ -1,5 +1,4 @@
 -- The card that was sought already is answered where it is named again; any other is sought.
-use borrow.Author.Rules.{rules}
 use Rattle.run.proofs.RangeAsking.{same-card}
 use Rattle.run.proofs.ranges.seek_last.Goals as goal
 

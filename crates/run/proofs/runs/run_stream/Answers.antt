@@ -1,6 +1,5 @@
 -- 19 ahead of the lines.
 use Rattle.run.proofs.Running.{stream-over, stream-within}
-use borrow.Author.Rules.{rules}
 use Rattle.run.proofs.runs.run_stream.Goals as goal
 
 pub returns-then-stream-gt-STREAM : goal.returns-then-stream-gt-STREAM

@@ -1,7 +1,6 @@
-use Prim.Native.Nat.{◌-◌, ◌≤◌}
 use mathlib.Core.Path.{refl, sym, ◌∙◌}
 use native.Mathlib.Omega.{arith}
-use Rattle.run.proofs.Walking.{Looks, look-start, look-here, look-next, look-end}
+use Rattle.run.proofs.Walking.{look-start, look-here, look-next, look-end}
 use borrow.Author.Rules.{rules}
 use Rattle.run.proofs.seek.find.Goals as goal
 

@@ -1,9 +1,6 @@
 -- The walk goes from card to card; the first of this owner and number is answered, and no card passed was it.
 use Prim.Native.Nat.{◌-◌, ◌≤◌}
-use mathlib.Core.Path.{refl, sym, ◌∙◌}
-use native.Mathlib.Omega.{arith}
-use Rattle.run.proofs.Walking.{Looks, look-start, look-here, look-next, look-end}
-use borrow.Author.Rules.{rules}
+use Rattle.run.proofs.Walking.{Looks}
 use Rattle.run.proofs.seek.find.Given as goal
 
 abbrev pub invariant-loop-at : goal.invariant-loop-at

@@ -5,7 +5,6 @@ use mathlib.Core.Bool.{Bool, ◌&&◌}
 use lib.Dec.{eqb}
 use lib.ListN.{get_or}
 use Rattle.run_meaning.proofs.FlatFind.{eqb_yes, eqb_no}
-use borrow.Author.Rules.{rules}
 use Rattle.run.proofs.seek.is_card.Goals as goal
 
 pub returns-then-x-seq : goal.returns-then-x-seq

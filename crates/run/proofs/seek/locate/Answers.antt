@@ -1,8 +1,8 @@
-use Prim.Native.Nat.{◌+◌, ◌-◌, ◌≤◌}
+use Prim.Native.Nat.{◌+◌}
 use mathlib.Core.Path.{refl, sym, ◌∙◌}
 use lib.ListN.{length}
 use Rattle.run.specs.declared.seek.Place.{Place}
-use Rattle.run.proofs.Walking.{Looks, look-start, look-here, look-next, look-end, look-find}
+use Rattle.run.proofs.Walking.{look-start, look-here, look-next, look-end, look-find}
 use Rattle.run.proofs.Locating.{locate-high, locate-below, locate-above}
 use Rattle.run.proofs.Opening.{locates}
 use native.Mathlib.Omega.{arith}

@@ -1,12 +1,6 @@
 -- Two walks, one from the start and one from the gap: a card above the gap is the first with its owner and number, as no two have the same; else it is below, or nowhere.
-use Prim.Native.Nat.{◌+◌, ◌-◌, ◌≤◌}
-use mathlib.Core.Path.{refl, sym, ◌∙◌}
-use lib.ListN.{length}
-use Rattle.run.specs.declared.seek.Place.{Place}
-use Rattle.run.proofs.Walking.{Looks, look-start, look-here, look-next, look-end, look-find}
-use Rattle.run.proofs.Locating.{locate-high, locate-below, locate-above}
-use Rattle.run.proofs.Opening.{locates}
-use Rattle.run.proofs.Sums.{same_place, order-on, below-le, near, near_on, step-on, end-nearer, below_all, low_fits, low_near, one-fits, one-near, two-fit, two-near, three-fit, three-near, last_fits, last-near}
+use Prim.Native.Nat.{◌-◌, ◌≤◌}
+use Rattle.run.proofs.Walking.{Looks}
 use Rattle.run.proofs.seek.locate.Given as goal
 
 abbrev pub invariant-loop-b : goal.invariant-loop-b

@@ -4,7 +4,6 @@ use mathlib.Core.Path.{sym}
 use lib.Seq.{length-take-le}
 use Rattle.library_yanks_bits.specs.SettledBits.{flagged}
 use Rattle.run.proofs.Working.{resettled}
-use borrow.Author.Rules.{rules}
 use Rattle.run.proofs.settle.settle_all.Goals as goal
 
 pub slice_bounds-settle_bits-end-2 : goal.slice_bounds-settle_bits-end-2

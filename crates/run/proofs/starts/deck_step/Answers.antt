@@ -6,7 +6,6 @@ use lib.ListN.{length, set, length-set}
 use Rattle.run.specs.Desk.{SaneAfter}
 use Rattle.run.specs.Obeyed.{DeckSteps}
 use Rattle.run.proofs.Sums.{place_up, same_place, order-on, room-place, card-fits, entry-fits, entry-bytes, entry-bytes-on, entry-number, entry_in, entries-in, entry-in-on, deck-fits, deck-bytes, deck-in, entries-few, decks-few, two-on}
-use Rattle.run.proofs.Correcting.{not_taken, not_left}
 use Rattle.run.proofs.Stepping.{fitted-sane}
 use Rattle.run.proofs.Decking.{deck-known, deck-on, deck_desk}
 use Rattle.run.proofs.starts.deck_step.Goals as goal

@@ -3,7 +3,6 @@ use mathlib.Core.Path.{◌≡◌, sym}
 use native.Mathlib.Omega.{arith}
 use lib.ListN.{length, take}
 use lib.Seq.{length-take-le}
-use borrow.Author.Rules.{rules}
 use Rattle.library.proofs.NameAtEnd.{entry-within}
 use Rattle.run.proofs.starts.entry_of.Goals as goal
 

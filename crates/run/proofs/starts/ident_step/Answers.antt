@@ -1,9 +1,7 @@
 -- A name that is known is refused; a new one is written after the last, and the limits are tested by counts.
 use mathlib.Core.Path.{sym, ◌∙◌, subst}
 use lib.ListN.{set}
-use borrow.Author.Rules.{rules}
 use Rattle.run.specs.Obeyed.{StaysSane, IdentSteps}
-use Rattle.run.proofs.Correcting.{not_taken, not_left}
 use Rattle.run.proofs.Starting.{ident-known, ident-on, ident-sane}
 use Rattle.run.proofs.starts.ident_step.Goals as goal
 

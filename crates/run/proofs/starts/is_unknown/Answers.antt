@@ -2,7 +2,6 @@
 use Rattle.run.proofs.YankTests.{unknown-reserved, unknown-entry}
 use mathlib.Core.Path.{sym, ◌∙◌}
 use lib.ListN.{take}
-use borrow.Author.Rules.{rules}
 use Rattle.run.proofs.starts.is_unknown.Goals as goal
 
 pub returns-then-w-reserved_word : goal.returns-then-w-reserved_word

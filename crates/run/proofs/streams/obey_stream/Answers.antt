@@ -1,11 +1,11 @@
 use Rattle.run.specs.Desk.{SaneAfter}
 use Rattle.run.specs.Resettled.{ObeysLine}
-use Prim.Native.Nat.{◌+◌, ◌-◌, ◌≤◌, ◌<◌}
+use Prim.Native.Nat.{◌+◌, ◌≤◌, ◌<◌}
 use native.Mathlib.Omega.{arith}
 use mathlib.Core.Path.{◌≡◌, refl, ◌∙◌, subst}
 use lib.ListN.{length}
 use Rattle.run.specs.Streamed.{in_arrays}
-use Rattle.run.proofs.Streaming.{Going, Goes, next_place, goes-start, goes-more, goes-stop, goes_end}
+use Rattle.run.proofs.Streaming.{next_place, goes-start, goes-more, goes-stop, goes_end}
 use borrow.Author.Rules.{rules}
 use Rattle.run.proofs.streams.obey_stream.Goals as goal
 

@@ -1,13 +1,8 @@
 -- The invariant: the rest of the stream, obeyed in what the arrays now hold, goes as the whole stream goes from the start.
-use Rattle.run.specs.Desk.{SaneAfter}
-use Rattle.run.specs.Resettled.{ObeysLine}
-use Prim.Native.Nat.{◌+◌, ◌-◌, ◌≤◌, ◌<◌}
-use native.Mathlib.Omega.{arith}
-use mathlib.Core.Path.{◌≡◌, refl, ◌∙◌, subst}
+use Prim.Native.Nat.{◌+◌, ◌-◌}
 use lib.ListN.{length}
 use Rattle.run.specs.Streamed.{in_arrays}
-use Rattle.run.proofs.Streaming.{Going, Goes, next_place, goes-start, goes-more, goes-stop, goes_end}
-use borrow.Author.Rules.{rules}
+use Rattle.run.proofs.Streaming.{Going, Goes}
 use Rattle.run.proofs.streams.obey_stream.Given as goal
 
 abbrev pub invariant-loop-at : goal.invariant-loop-at

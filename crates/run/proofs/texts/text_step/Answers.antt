@@ -3,7 +3,6 @@ use Prim.Native.Nat.{ℕ, ◌+◌, ◌≤◌}
 use native.Mathlib.Omega.{arith}
 use mathlib.Core.Path.{◌≡◌, sym, ap, ◌∙◌, subst}
 use lib.ListN.{length}
-use borrow.Author.Rules.{rules}
 use Rattle.run.specs.Desk.{fitted, SaneAfter}
 use Rattle.run.specs.Obeyed.{TextSteps}
 use Rattle.run.proofs.Sums.{place_up, sum-order, order-on, room-place, card-fits, entries-small, decks-small, next-below, next-number}

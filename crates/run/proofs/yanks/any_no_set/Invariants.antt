@@ -1,13 +1,10 @@
 -- No name passed is barred, so one is just where one from here on is.
-use mathlib.Core.Path.{◌≡◌, sym, ◌∙◌}
+use mathlib.Core.Path.{◌≡◌}
 use Prim.Native.Nat.{◌+◌, ◌-◌, ◌≤◌}
-use native.Mathlib.Omega.{arith}
 use lib.ListN.{length, take}
 use Rattle.words.specs.Base.{any}
-use Rattle.words_lines.proofs.FieldNames.{step-name, names_from}
+use Rattle.words_lines.proofs.FieldNames.{names_from}
 use Rattle.run.specs.YankNames.{names_in, no_set_in}
-use Rattle.run.proofs.YankTests.{names-start, names-here, names-on, names-over}
-use borrow.Author.Rules.{rules}
 use Rattle.run.proofs.yanks.any_no_set.Given as goal
 
 abbrev pub invariant-loop-word : goal.invariant-loop-word

@@ -1,10 +1,8 @@
-use mathlib.Core.Path.{◌≡◌, sym, ◌∙◌}
-use Prim.Native.Nat.{◌+◌, ◌-◌, ◌≤◌}
+use mathlib.Core.Path.{sym, ◌∙◌}
 use native.Mathlib.Omega.{arith}
-use lib.ListN.{length, take}
-use Rattle.words.specs.Base.{any}
-use Rattle.words_lines.proofs.FieldNames.{step-name, names_from}
-use Rattle.run.specs.YankNames.{names_in, unknown_in}
+use lib.ListN.{take}
+use Rattle.words_lines.proofs.FieldNames.{step-name}
+use Rattle.run.specs.YankNames.{unknown_in}
 use Rattle.run.proofs.YankTests.{names-start, names-here, names-on, names-over}
 use borrow.Author.Rules.{rules}
 use Rattle.run.proofs.yanks.any_unknown.Goals as goal

@@ -3,7 +3,6 @@ use mathlib.Core.Path.{sym, ◌∙◌}
 use Rattle.run.proofs.YankTests.{no-set-listed, no-set-entry}
 use lib.ListN.{take}
 use lib.Seq.{length-take-le}
-use borrow.Author.Rules.{rules}
 use Rattle.run.proofs.yanks.is_no_set.Goals as goal
 
 pub slice_bounds-stands-end : goal.slice_bounds-stands-end

@@ -2,7 +2,6 @@
 use Prim.Native.Nat.{ℕ, ◌+◌, ◌≤◌}
 use mathlib.Core.Path.{◌≡◌, sym, ap, ◌∙◌, subst}
 use lib.ListN.{length}
-use borrow.Author.Rules.{rules}
 use Rattle.run.specs.Desk.{fitted, SaneAfter}
 use Rattle.run.specs.YankNames.{LeadAfter, PutsYank}
 use Rattle.run.proofs.Sums.{sum-order, order-on, room-place, card-fits, entry-below, entries-small, decks-small, next-below, next-number}

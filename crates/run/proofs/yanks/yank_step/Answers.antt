@@ -4,7 +4,6 @@ use native.Mathlib.Omega.{arith}
 use mathlib.Core.Path.{◌≡◌, sym, ap, ◌∙◌, subst}
 use mathlib.Core.List.{List}
 use lib.ListN.{length, take}
-use borrow.Author.Rules.{rules}
 use Rattle.words.specs.Base.{any}
 use Rattle.run.specs.Desk.{SaneAfter}
 use Rattle.run.specs.YankNames.{names_in, unknown_in, no_set_in, LeadAfter, PutsYank}

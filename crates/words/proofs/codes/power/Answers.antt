@@ -1,5 +1,4 @@
 -- `codes::power` is right because a shift by six bits is a factor of 64. Assumes nothing.
-use borrow.Author.Rules.{rules}
 use Prim.Native.Nat.{◌^◌}
 use mathlib.Core.Path.{sym, ap, ◌∙◌}
 use mathlib.Core.Bool.{Bool}

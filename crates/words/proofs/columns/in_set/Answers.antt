@@ -1,8 +1,5 @@
 use borrow.Author.Rules.{rules}
-use Prim.Native.Nat.{◌≤◌, ◌-◌}
-use mathlib.Core.Path.{◌≡◌, sym, refl, ◌∙◌}
-use lib.ListN.{length, drop}
-use Rattle.words.specs.Base.{all}
+use mathlib.Core.Path.{sym, refl, ◌∙◌}
 use Rattle.words.specs.Display.{in_chart}
 use Rattle.words.proofs.ChartBothWays.{set-under, set-above, set-inside}
 use Rattle.words.proofs.AllPass.{passes, stops, passed-all}

@@ -1,12 +1,9 @@
 -- `columns::in_set` is right because what is left to look at decides as long as every byte passed is in the set. Assumes nothing.
-use borrow.Author.Rules.{rules}
 use Prim.Native.Nat.{◌≤◌, ◌-◌}
-use mathlib.Core.Path.{◌≡◌, sym, refl, ◌∙◌}
+use mathlib.Core.Path.{◌≡◌}
 use lib.ListN.{length, drop}
 use Rattle.words.specs.Base.{all}
 use Rattle.words.specs.Display.{in_chart}
-use Rattle.words.proofs.ChartBothWays.{set-under, set-above, set-inside}
-use Rattle.words.proofs.AllPass.{passes, stops, passed-all}
 use Rattle.words.proofs.columns.in_set.Given as goal
 
 abbrev pub invariant-loop-i : goal.invariant-loop-i

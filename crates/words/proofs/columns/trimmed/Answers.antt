@@ -1,10 +1,6 @@
-use borrow.Author.Rules.{rules}
-use Prim.Native.Nat.{◌≤◌}
 use native.Mathlib.Omega.{arith}
-use mathlib.Core.Path.{◌≡◌, sym}
-use lib.ListN.{length, take}
+use mathlib.Core.Path.{sym}
 use lib.Seq.{length-take-le}
-use Rattle.words.specs.Text.{trim}
 use Rattle.words.proofs.TrimmedLine.{cut-start, cut-here, cut_on, cut-none}
 use Rattle.words.proofs.columns.trimmed.Goals as goal
 

@@ -1,12 +1,8 @@
 -- `columns::trimmed` is right because what it passes from the end are blanks. Assumes nothing.
-use borrow.Author.Rules.{rules}
 use Prim.Native.Nat.{◌≤◌}
-use native.Mathlib.Omega.{arith}
-use mathlib.Core.Path.{◌≡◌, sym}
+use mathlib.Core.Path.{◌≡◌}
 use lib.ListN.{length, take}
-use lib.Seq.{length-take-le}
 use Rattle.words.specs.Text.{trim}
-use Rattle.words.proofs.TrimmedLine.{cut-start, cut-here, cut_on, cut-none}
 use Rattle.words.proofs.columns.trimmed.Given as goal
 
 abbrev pub invariant-loop-n : goal.invariant-loop-n

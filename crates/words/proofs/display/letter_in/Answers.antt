@@ -1,5 +1,4 @@
 -- `display::letter_in` is right because there are blanks outside the chart. Assumes nothing.
-use borrow.Author.Rules.{rules}
 use mathlib.Core.Path.{sym}
 use Rattle.words.proofs.ChartBothWays.{letter-outside}
 use Rattle.words.proofs.display.letter_in.Goals as goal

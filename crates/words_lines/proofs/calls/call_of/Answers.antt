@@ -1,12 +1,10 @@
 -- The tests are those of the definition: a name's word is 0 exactly where there is no name.
 use mathlib.Core.Path.{◌≡◌, sym, ap, ◌∙◌}
 use mathlib.Core.Bool.{true}
-use borrow.Author.Tests.{not-true, not-false}
 use Rattle.words.specs.Spelt.{word_of_name}
 use Rattle.words_lines.specs.Directive.{field, is_clean}
 use Rattle.words_lines.specs.declared.Call.TheVariants.{Of}
 use Rattle.words_lines.proofs.CallLine.{Called, call-named, call-nameless, call-unclean, call-other, call-starless}
-use borrow.Author.Rules.{rules}
 use Rattle.words_lines.proofs.calls.call_of.Goals as goal
 
 pub returns-then-not-stands_at : goal.returns-then-not-stands_at

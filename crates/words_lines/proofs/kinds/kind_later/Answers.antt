@@ -1,10 +1,7 @@
 -- Each test is a row of the table from the sixth on: where it fails, the rows after it decide.
 use mathlib.Core.Path.{sym, ◌∙◌}
-use mathlib.Core.List.{List}
-use Prim.Native.Nat.{ℕ}
 use lib.Dec.{lit<}
 use Rattle.words_lines.proofs.DirectiveRow.{Past, row_here, row_next}
-use borrow.Author.Rules.{rules}
 use Rattle.words_lines.proofs.kinds.kind_later.Goals as goal
 
 pub returns-then-listed : goal.returns-then-listed

@@ -1,11 +1,8 @@
 -- Each test is a row of the table: where it fails, the rows after it decide.
 use mathlib.Core.Path.{sym, ◌∙◌}
-use mathlib.Core.List.{List}
-use Prim.Native.Nat.{ℕ}
 use lib.Dec.{lit<}
 use Rattle.words_lines.specs.Directive.{kind_of}
 use Rattle.words_lines.proofs.DirectiveRow.{Past, row_here, row_next}
-use borrow.Author.Rules.{rules}
 use Rattle.words_lines.proofs.kinds.kind_of.Goals as goal
 
 pub returns-then-listed : goal.returns-then-listed

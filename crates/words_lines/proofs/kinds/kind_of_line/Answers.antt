@@ -1,8 +1,6 @@
 -- The tests are those of the definition, in its order.
 use mathlib.Core.Path.{sym, ap, ◌∙◌}
-use borrow.Author.Tests.{not-true, not-false}
 use Rattle.words_lines.specs.Directive.{kind_of, kind_of_line}
-use borrow.Author.Rules.{rules}
 use Rattle.words_lines.proofs.kinds.kind_of_line.Goals as goal
 
 pub returns-then-not-stands_at : goal.returns-then-not-stands_at

@@ -4,7 +4,6 @@ use lib.Dec.{eqb}
 use Rattle.words.specs.Base.{take_until}
 use Rattle.words.specs.Display.{blank}
 use Rattle.words_lines.specs.Directive.{field}
-use borrow.Author.Rules.{rules}
 use Rattle.words_lines.proofs.parts.field_of.Goals as goal
 
 pub returns : goal.returns

@@ -6,7 +6,6 @@ use Rattle.words.specs.Display.{blank}
 use Rattle.words_lines.specs.Directive.{is_clean}
 use Rattle.words_lines.proofs.CutAtFirst.{part-from}
 use Rattle.words_lines.proofs.FieldPlaces.{clean-to}
-use borrow.Author.Rules.{rules}
 use Rattle.words_lines.proofs.parts.is_clean.Goals as goal
 
 pub returns : goal.returns

@@ -1,6 +1,5 @@
 -- The name is what stands from column 2 up to what ends a name.
 use Rattle.words_lines.specs.Directive.{name_of_line}
-use borrow.Author.Rules.{rules}
 use Rattle.words_lines.proofs.parts.name_of.Goals as goal
 
 pub returns : goal.returns

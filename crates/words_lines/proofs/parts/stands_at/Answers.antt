@@ -1,6 +1,5 @@
 -- The byte at the place is the first of what is left from there.
 use Rattle.words_lines.proofs.FieldPlaces.{stands, stands-not}
-use borrow.Author.Rules.{rules}
 use Rattle.words_lines.proofs.parts.stands_at.Goals as goal
 
 pub returns-then-at-line : goal.returns-then-at-line

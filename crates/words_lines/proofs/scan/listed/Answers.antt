@@ -1,11 +1,9 @@
-use Prim.Native.Nat.{◌+◌, ◌-◌, ◌≤◌}
-use mathlib.Core.Path.{◌≡◌, refl, sym, ◌∙◌}
+use mathlib.Core.Path.{refl, sym, ◌∙◌}
 use native.Mathlib.Omega.{arith}
 use lib.Dec.{eqb}
-use lib.ListN.{length}
-use Rattle.words.specs.Base.{any, same, split}
+use Rattle.words.specs.Base.{same}
 use Rattle.words.specs.Display.{blank}
-use Rattle.words_lines.proofs.SplitList.{parts_from, part-fits, any_none, any_here, any_next}
+use Rattle.words_lines.proofs.SplitList.{part-fits, any_none, any_here, any_next}
 use borrow.Author.Rules.{rules}
 use Rattle.words_lines.proofs.scan.listed.Goals as goal
 

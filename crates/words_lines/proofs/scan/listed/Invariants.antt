@@ -1,13 +1,11 @@
 -- The names passed are others, so the name is listed if it is among those from here on.
 use Prim.Native.Nat.{◌+◌, ◌-◌, ◌≤◌}
-use mathlib.Core.Path.{◌≡◌, refl, sym, ◌∙◌}
-use native.Mathlib.Omega.{arith}
+use mathlib.Core.Path.{◌≡◌}
 use lib.Dec.{eqb}
 use lib.ListN.{length}
 use Rattle.words.specs.Base.{any, same, split}
 use Rattle.words.specs.Display.{blank}
-use Rattle.words_lines.proofs.SplitList.{parts_from, part-fits, any_none, any_here, any_next}
-use borrow.Author.Rules.{rules}
+use Rattle.words_lines.proofs.SplitList.{parts_from}
 use Rattle.words_lines.proofs.scan.listed.Given as goal
 
 abbrev pub invariant-loop-at : goal.invariant-loop-at

@@ -1,7 +1,6 @@
 -- The part from the place after the one where the search stops is what is beyond it; at the end both are nothing.
 use Rattle.words_lines.specs.Scan.{stops_at}
 use Rattle.words_lines.proofs.CutAtFirst.{tail-beyond, tail-end}
-use borrow.Author.Rules.{rules}
 use Rattle.words_lines.proofs.scan.part_after.Goals as goal
 
 pub returns-then-e-s : goal.returns-then-e-s

@@ -3,7 +3,6 @@ use native.Mathlib.Omega.{arith}
 use lib.ListN.{drop_of_length-le}
 use Rattle.words_lines.specs.Scan.{stops_at}
 use Rattle.words_lines.proofs.CutAtFirst.{part-ahead}
-use borrow.Author.Rules.{rules}
 use Rattle.words_lines.proofs.scan.part_at.Goals as goal
 
 pub returns-then-s-at : goal.returns-then-s-at

@@ -1,8 +1,5 @@
-use Prim.Native.Nat.{◌+◌, ◌-◌, ◌≤◌}
-use mathlib.Core.Path.{◌≡◌, sym, ◌∙◌}
+use mathlib.Core.Path.{sym, ◌∙◌}
 use native.Mathlib.Omega.{arith}
-use lib.ListN.{length, drop}
-use Rattle.words.specs.Base.{take_until}
 use Rattle.words_lines.specs.Scan.{stops_at}
 use Rattle.words_lines.proofs.CutAtFirst.{reach-end, reach_here, reach-more}
 use borrow.Author.Rules.{rules}

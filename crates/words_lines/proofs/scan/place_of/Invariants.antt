@@ -1,12 +1,9 @@
 -- The bytes passed do not stop the search: what is ahead of the place is as long as the bytes passed and what is ahead of it from here.
 use Prim.Native.Nat.{◌+◌, ◌-◌, ◌≤◌}
-use mathlib.Core.Path.{◌≡◌, sym, ◌∙◌}
-use native.Mathlib.Omega.{arith}
+use mathlib.Core.Path.{◌≡◌}
 use lib.ListN.{length, drop}
 use Rattle.words.specs.Base.{take_until}
 use Rattle.words_lines.specs.Scan.{stops_at}
-use Rattle.words_lines.proofs.CutAtFirst.{reach-end, reach_here, reach-more}
-use borrow.Author.Rules.{rules}
 use Rattle.words_lines.proofs.scan.place_of.Given as goal
 
 abbrev pub invariant-loop-i : goal.invariant-loop-i

@@ -1,8 +1,5 @@
-use Prim.Native.Nat.{◌-◌, ◌≤◌}
-use mathlib.Core.Path.{◌≡◌, refl, sym, ◌∙◌}
+use mathlib.Core.Path.{refl, sym, ◌∙◌}
 use native.Mathlib.Omega.{arith}
-use lib.ListN.{length, drop}
-use Rattle.words.specs.Base.{same as bytes_same}
 use Rattle.words.proofs.ComparedLists.{differ-length, differ-here, same_more, same-all}
 use borrow.Author.Rules.{rules}
 use Rattle.words_lines.proofs.scan.same.Goals as goal

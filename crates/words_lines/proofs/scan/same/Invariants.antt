@@ -1,11 +1,8 @@
 -- The bytes passed are equal in both, so the strings are the same if what is left of them is.
 use Prim.Native.Nat.{◌-◌, ◌≤◌}
-use mathlib.Core.Path.{◌≡◌, refl, sym, ◌∙◌}
-use native.Mathlib.Omega.{arith}
+use mathlib.Core.Path.{◌≡◌}
 use lib.ListN.{length, drop}
 use Rattle.words.specs.Base.{same as bytes_same}
-use Rattle.words.proofs.ComparedLists.{differ-length, differ-here, same_more, same-all}
-use borrow.Author.Rules.{rules}
 use Rattle.words_lines.proofs.scan.same.Given as goal
 
 abbrev pub invariant-loop-i : goal.invariant-loop-i

@@ -1,6 +1,5 @@
 -- Each stop is the test of the definition, byte for byte.
 use borrow.Author.Tests.{eq-eqb, ne_eqb}
-use borrow.Author.Rules.{rules}
 use Rattle.words_lines.proofs.scan.stops.Goals as goal
 
 pub returns-in-Line : goal.returns-in-Line

@@ -2,7 +2,6 @@
 use mathlib.Core.Path.{sym, ◌∙◌}
 use Rattle.words_lines.specs.Directive.{field, asked}
 use Rattle.words_lines_asked.proofs.DirectiveAsks.{asks-spoilt}
-use borrow.Author.Rules.{rules}
 use Rattle.words_lines_asked.proofs.asks.asked_of.Goals as goal
 
 pub returns-then-is_clean : goal.returns-then-is_clean

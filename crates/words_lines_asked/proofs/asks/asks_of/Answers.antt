@@ -1,6 +1,5 @@
 -- Each kind asks what the definition says of it, where nothing but blanks follows the parameters.
 use mathlib.Core.Path.{sym, ◌∙◌}
-use borrow.Author.Rules.{rules}
 use Rattle.words_lines_asked.proofs.asks.asks_of.Goals as goal
 
 pub returns-in-Text : goal.returns-in-Text

@@ -2,7 +2,6 @@
 use mathlib.Core.Path.{sym, ap, ◌∙◌}
 use Rattle.words_lines.specs.declared.Line.TheVariants.{Deck, Malformed}
 use Rattle.words_lines_asked.proofs.DirectiveAsks.{by_name, name-asked}
-use borrow.Author.Rules.{rules}
 use Rattle.words_lines_asked.proofs.asks.deck.Goals as goal
 
 pub returns-in-One : goal.returns-in-One

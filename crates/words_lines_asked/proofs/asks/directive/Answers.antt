@@ -1,8 +1,7 @@
 -- 20 is tested ahead of 21, and 21 ahead of what the line asks.
 use mathlib.Core.Path.{sym, ◌∙◌}
-use borrow.Author.Tests.{lt-ltb, le-ltb, not-true, not-false}
+use borrow.Author.Tests.{lt-ltb, le-ltb}
 use Rattle.words_lines.specs.Directive.{directive}
-use borrow.Author.Rules.{rules}
 use Rattle.words_lines_asked.proofs.asks.directive.Goals as goal
 
 pub returns-then-not-in_set : goal.returns-then-not-in_set

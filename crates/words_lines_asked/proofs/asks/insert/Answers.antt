@@ -2,7 +2,6 @@
 use mathlib.Core.Path.{ap, ◌∙◌}
 use Rattle.words_lines.specs.declared.Line.TheVariants.{Insert}
 use Rattle.words_lines_asked.proofs.DirectiveAsks.{card-asked, card-refused}
-use borrow.Author.Rules.{rules}
 use Rattle.words_lines_asked.proofs.asks.insert.Goals as goal
 
 pub returns-then-card-eq0 : goal.returns-then-card-eq0

@@ -9,7 +9,6 @@ use Rattle.words_lines.specs.Directive.{line_number}
 use Rattle.words_lines.specs.declared.Line.{Line}
 use Rattle.words_lines.specs.declared.Line.TheVariants.{Text, Skipped, Deck, Comdeck, Ident, Insert, Before, Delete, Restore, Yank, Outside, Long, Malformed, NotCarried}
 use Rattle.words_lines.specs.contracts.Line as line
-use borrow.Author.Rules.{rules}
 use Rattle.words_lines_asked.proofs.asks.line_number.Goals as goal
 
 abbrev others : List ℕ

@@ -2,7 +2,6 @@
 use mathlib.Core.Path.{sym, ap, ◌∙◌}
 use Rattle.words_lines.specs.declared.Line.TheVariants.{Restore}
 use Rattle.words_lines_asked.proofs.DirectiveAsks.{by_range, range-asked}
-use borrow.Author.Rules.{rules}
 use Rattle.words_lines_asked.proofs.asks.restore.Goals as goal
 
 pub returns-in-Of : goal.returns-in-Of

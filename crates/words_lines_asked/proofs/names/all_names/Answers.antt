@@ -1,10 +1,9 @@
-use Prim.Native.Nat.{◌+◌, ◌-◌, ◌≤◌}
-use mathlib.Core.Path.{◌≡◌, refl, sym, ap, ◌∙◌}
+use mathlib.Core.Path.{refl, sym, ap, ◌∙◌}
 use native.Mathlib.Omega.{arith}
-use lib.ListN.{length, drop}
+use lib.ListN.{drop}
 use Rattle.words.specs.Base.{all, take_until}
 use Rattle.words.specs.Names.{is_name}
-use Rattle.words_lines.specs.Directive.{is_comma, params}
+use Rattle.words_lines.specs.Directive.{is_comma}
 use Rattle.words_lines.proofs.SplitList.{parts_from, all_none, all-next, all-not}
 use Rattle.words_lines.proofs.NamesByWord.{is_name_lem, no_name}
 use Rattle.words_lines.proofs.FieldNames.{Step, step-name, step_end}

@@ -1,15 +1,11 @@
 -- The parameters passed are names, so all are if all from here on are.
 use Prim.Native.Nat.{◌+◌, ◌-◌, ◌≤◌}
-use mathlib.Core.Path.{◌≡◌, refl, sym, ap, ◌∙◌}
-use native.Mathlib.Omega.{arith}
-use lib.ListN.{length, drop}
-use Rattle.words.specs.Base.{all, take_until}
+use mathlib.Core.Path.{◌≡◌}
+use lib.ListN.{length}
+use Rattle.words.specs.Base.{all}
 use Rattle.words.specs.Names.{is_name}
 use Rattle.words_lines.specs.Directive.{is_comma, params}
-use Rattle.words_lines.proofs.SplitList.{parts_from, all_none, all-next, all-not}
-use Rattle.words_lines.proofs.NamesByWord.{is_name_lem, no_name}
-use Rattle.words_lines.proofs.FieldNames.{Step, step-name, step_end}
-use borrow.Author.Rules.{rules}
+use Rattle.words_lines.proofs.SplitList.{parts_from}
 use Rattle.words_lines_asked.proofs.names.all_names.Given as goal
 
 abbrev pub invariant-loop-word : goal.invariant-loop-word

@@ -6,7 +6,6 @@ use Rattle.words.specs.Display.{point}
 use Rattle.words.specs.Names.{number_read}
 use Rattle.words.specs.Spelt.{word_of_name}
 use Rattle.words_lines_asked.proofs.CardsByWord.{card-both, card-nameless, card-numberless}
-use borrow.Author.Rules.{rules}
 use Rattle.words_lines_asked.proofs.names.card_of.Goals as goal
 
 pub returns-then-name-eq0 : goal.returns-then-name-eq0

@@ -5,7 +5,6 @@ use Rattle.words.specs.Spelt.{word_of_name}
 use Rattle.words_lines.specs.Directive.{is_comma}
 use Rattle.words_lines_asked.specs.declared.names.NameField.TheVariants.{One}
 use Rattle.words_lines_asked.proofs.DirectiveAsks.{name-one, name-none, name-more, name-gap}
-use borrow.Author.Rules.{rules}
 use Rattle.words_lines_asked.proofs.names.name_field.Goals as goal
 
 pub returns-then-word-ne0 : goal.returns-then-word-ne0

@@ -6,7 +6,6 @@ use lib.ListN.{length}
 use Rattle.words_lines.specs.Directive.{is_comma}
 use Rattle.words_lines.specs.Reading.{next_name}
 use Rattle.words_lines.proofs.SplitList.{part-fits}
-use borrow.Author.Rules.{rules}
 use Rattle.words_lines_asked.proofs.names.next_name.Goals as goal
 
 pub returns-then-field-at : goal.returns-then-field-at

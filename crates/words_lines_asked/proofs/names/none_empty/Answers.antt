@@ -1,11 +1,8 @@
-use Prim.Native.Nat.{◌+◌, ◌-◌, ◌≤◌}
-use mathlib.Core.Path.{◌≡◌, refl, sym, ◌∙◌}
+use mathlib.Core.Path.{refl, sym, ◌∙◌}
 use native.Mathlib.Omega.{arith}
-use lib.ListN.{length}
-use Rattle.words.specs.Base.{all}
-use Rattle.words_lines.specs.Directive.{is_comma, params}
+use Rattle.words_lines.specs.Directive.{is_comma}
 use Rattle.words_lines_asked.specs.Parameters.{not_empty}
-use Rattle.words_lines.proofs.SplitList.{parts_from, part-fits, all_none, all-next, all-not}
+use Rattle.words_lines.proofs.SplitList.{part-fits, all_none, all-next, all-not}
 use Rattle.words_lines_asked.proofs.CardsByWord.{full, empty}
 use borrow.Author.Rules.{rules}
 use Rattle.words_lines_asked.proofs.names.none_empty.Goals as goal

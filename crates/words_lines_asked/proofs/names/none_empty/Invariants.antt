@@ -1,14 +1,11 @@
 -- The parameters passed are not empty, so none is if none from here on is.
 use Prim.Native.Nat.{◌+◌, ◌-◌, ◌≤◌}
-use mathlib.Core.Path.{◌≡◌, refl, sym, ◌∙◌}
-use native.Mathlib.Omega.{arith}
+use mathlib.Core.Path.{◌≡◌}
 use lib.ListN.{length}
 use Rattle.words.specs.Base.{all}
 use Rattle.words_lines.specs.Directive.{is_comma, params}
 use Rattle.words_lines_asked.specs.Parameters.{not_empty}
-use Rattle.words_lines.proofs.SplitList.{parts_from, part-fits, all_none, all-next, all-not}
-use Rattle.words_lines_asked.proofs.CardsByWord.{full, empty}
-use borrow.Author.Rules.{rules}
+use Rattle.words_lines.proofs.SplitList.{parts_from}
 use Rattle.words_lines_asked.proofs.names.none_empty.Given as goal
 
 abbrev pub invariant-loop-at : goal.invariant-loop-at

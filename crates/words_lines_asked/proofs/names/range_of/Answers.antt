@@ -4,7 +4,6 @@ use Rattle.words.specs.Base.{take_until, beyond}
 use Rattle.words_lines.specs.Directive.{is_comma}
 use Rattle.words_lines_asked.specs.Parameters.{card_read}
 use Rattle.words_lines_asked.proofs.DirectiveAsks.{range-one, range-two, range-first, range_last}
-use borrow.Author.Rules.{rules}
 use Rattle.words_lines_asked.proofs.names.range_of.Goals as goal
 
 pub returns-then-card-ne0 : goal.returns-then-card-ne0

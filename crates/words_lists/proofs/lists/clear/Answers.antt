@@ -1,7 +1,4 @@
-use Prim.Native.Nat.{◌-◌}
-use lib.ListN.{length}
-use Rattle.words_lists.proofs.ClearedList.{Cleared, cleared-start, cleared_more, cleared-all}
-use borrow.Author.Rules.{rules}
+use Rattle.words_lists.proofs.ClearedList.{cleared-start, cleared_more, cleared-all}
 use Rattle.words_lists.proofs.lists.clear.Goals as goal
 
 pub loop-i-init : goal.loop-i-init

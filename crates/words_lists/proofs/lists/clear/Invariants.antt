@@ -1,8 +1,7 @@
 -- The words passed are 0. Assumes nothing.
 use Prim.Native.Nat.{◌-◌}
 use lib.ListN.{length}
-use Rattle.words_lists.proofs.ClearedList.{Cleared, cleared-start, cleared_more, cleared-all}
-use borrow.Author.Rules.{rules}
+use Rattle.words_lists.proofs.ClearedList.{Cleared}
 use Rattle.words_lists.proofs.lists.clear.Given as goal
 
 abbrev pub invariant-loop-i : goal.invariant-loop-i

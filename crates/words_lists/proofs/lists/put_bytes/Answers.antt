@@ -1,9 +1,8 @@
-use Prim.Native.Nat.{◌+◌, ◌-◌, ◌≤◌}
+use Prim.Native.Nat.{◌+◌, ◌≤◌}
 use mathlib.Core.Path.{sym, ◌∙◌}
 use lib.ListN.{length}
-use borrow.Author.Tests.{leb-true, leb-false, not-true, not-false}
-use Rattle.words_lists.proofs.OverLists.{over_none, Copied, copied-start, copied_more, copied_all}
-use borrow.Author.Rules.{rules}
+use borrow.Author.Tests.{leb-true, leb-false}
+use Rattle.words_lists.proofs.OverLists.{over_none, copied-start, copied_more, copied_all}
 use Rattle.words_lists.proofs.lists.put_bytes.Goals as goal
 
 pub returns-then-not-within : goal.returns-then-not-within

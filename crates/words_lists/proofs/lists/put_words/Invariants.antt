@@ -1,10 +1,7 @@
 -- Where they fit, each turn copies one more. Assumes nothing.
 use Prim.Native.Nat.{◌+◌, ◌-◌, ◌≤◌}
-use mathlib.Core.Path.{sym, ◌∙◌}
 use lib.ListN.{length}
-use borrow.Author.Tests.{leb-true, leb-false, not-true, not-false}
-use Rattle.words_lists.proofs.OverLists.{over_none, Copied, copied-start, copied_more, copied_all}
-use borrow.Author.Rules.{rules}
+use Rattle.words_lists.proofs.OverLists.{Copied}
 use Rattle.words_lists.proofs.lists.put_words.Given as goal
 
 abbrev pub invariant-loop-i : goal.invariant-loop-i

@@ -1,7 +1,4 @@
-use Prim.Native.Nat.{◌-◌}
-use mathlib.Core.Path.{◌≡◌, refl, sym, ◌∙◌}
-use lib.ListN.{length, drop}
-use Rattle.words.specs.Base.{member}
+use mathlib.Core.Path.{refl, sym, ◌∙◌}
 use Rattle.words_lists.proofs.StandsFrom.{stands_here, stands_on, stands-none}
 use borrow.Author.Rules.{rules}
 use Rattle.words_lists.proofs.lists.stands.Goals as goal

@@ -1,10 +1,8 @@
 -- Up to each place no word is w, so w stands in the whole just where it stands in the rest. Assumes nothing.
 use Prim.Native.Nat.{◌-◌}
-use mathlib.Core.Path.{◌≡◌, refl, sym, ◌∙◌}
+use mathlib.Core.Path.{◌≡◌}
 use lib.ListN.{length, drop}
 use Rattle.words.specs.Base.{member}
-use Rattle.words_lists.proofs.StandsFrom.{stands_here, stands_on, stands-none}
-use borrow.Author.Rules.{rules}
 use Rattle.words_lists.proofs.lists.stands.Given as goal
 
 abbrev pub invariant-loop-i : goal.invariant-loop-i

@@ -1,10 +1,7 @@
 -- `columns::put_gap` is right because each turn puts one blank more behind those that are there. Assumes nothing.
-use borrow.Author.Rules.{rules}
 use Prim.Native.Nat.{◌-◌, ◌≤◌}
-use native.Mathlib.Omega.{arith}
-use mathlib.Core.Path.{◌≡◌, refl}
-use lib.ListN.{length, take, replicate, length-set}
-use Rattle.words.proofs.DecimalDigits.{gap_more}
+use mathlib.Core.Path.{◌≡◌}
+use lib.ListN.{length, take, replicate}
 use Rattle.words_names.proofs.columns.put_gap.Given as goal
 
 abbrev pub invariant-loop-i : goal.invariant-loop-i

@@ -1,5 +1,4 @@
 -- `names::code_in` is right because a shift by six bits a place brings a code to the lowest place. Assumes nothing.
-use borrow.Author.Rules.{rules}
 use Prim.Native.Nat.{ℕ, ◌-◌, ◌/◌, ◌%◌}
 use mathlib.Core.Path.{ap}
 use Rattle.words.proofs.Powers.{bits-power}

@@ -1,12 +1,10 @@
-use borrow.Author.Rules.{rules}
-use Prim.Native.Nat.{◌-◌, ◌≤◌}
 use native.Mathlib.Omega.{arith}
 use mathlib.Core.Path.{◌≡◌, refl, sym, ◌∙◌}
 use lib.ListN.{length, get_or}
 use Rattle.words.specs.Names.{is_name_byte, name_of}
 use Rattle.words.proofs.AllPass.{passes, stops}
 use Rattle.words.proofs.Powers.{power-more, power-low, power-room}
-use Rattle.words.proofs.NameWord.{Packed, packed-end, many-none, other_none, letter-high, letter-good, pack-more, codes_left, left-start, left-none, left-inside, left-code, left-more, unnamed, unmade, made}
+use Rattle.words.proofs.NameWord.{packed-end, many-none, other_none, letter-high, letter-good, pack-more, left-start, left-none, left-inside, left-code, left-more, unnamed, unmade, made}
 use Rattle.words_names.proofs.names.name_length.Goals as goal
 
 pub loop-i-init : goal.loop-i-init

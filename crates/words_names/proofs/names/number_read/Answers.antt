@@ -1,11 +1,10 @@
-use borrow.Author.Rules.{rules}
 use Prim.Native.Nat.{◌-◌}
 use native.Mathlib.Omega.{arith}
 use mathlib.Core.Path.{◌≡◌, refl, sym, ◌∙◌}
-use lib.ListN.{length, get_or}
+use lib.ListN.{get_or}
 use Rattle.words.specs.Names.{is_digit}
 use Rattle.words.proofs.AllPass.{passes, stops, passed-all}
-use Rattle.words.proofs.DecimalDigits.{Reads, digit_low, digit-high, digit-good, decimal-more, decimal-end, below_more, below-low, read-long, read-other, read-large, read-good}
+use Rattle.words.proofs.DecimalDigits.{digit_low, digit-high, digit-good, decimal-more, decimal-end, below_more, below-low, read-long, read-other, read-large, read-good}
 use Rattle.words_names.proofs.names.number_read.Goals as goal
 
 pub returns-then-digits-gt-READ : goal.returns-then-digits-gt-READ

@@ -1,9 +1,8 @@
-use borrow.Author.Rules.{rules}
 use Prim.Native.Nat.{◌+◌, ◌%◌}
 use native.Mathlib.Omega.{arith}
 use mathlib.Core.Path.{◌≡◌, ◌∙◌}
 use lib.ListN.{length-set}
-use Rattle.words.proofs.DecimalDigits.{Writes, digits-start, digits_more, digits_last, left-digits, fewer_digits}
+use Rattle.words.proofs.DecimalDigits.{digits-start, digits_more, digits_last, left-digits, fewer_digits}
 use Rattle.words_names.proofs.names.put_digits.Goals as goal
 
 pub loop-m-init : goal.loop-m-init

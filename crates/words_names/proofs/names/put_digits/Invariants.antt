@@ -1,10 +1,5 @@
 -- `names::put_digits` is right because the digits still to be put, ahead of those that are, are always the whole. Assumes nothing.
-use borrow.Author.Rules.{rules}
-use Prim.Native.Nat.{◌+◌, ◌%◌}
-use native.Mathlib.Omega.{arith}
-use mathlib.Core.Path.{◌≡◌, ◌∙◌}
-use lib.ListN.{length-set}
-use Rattle.words.proofs.DecimalDigits.{Writes, digits-start, digits_more, digits_last, left-digits, fewer_digits}
+use Rattle.words.proofs.DecimalDigits.{Writes}
 use Rattle.words_names.proofs.names.put_digits.Given as goal
 
 abbrev pub invariant-loop-m : goal.invariant-loop-m

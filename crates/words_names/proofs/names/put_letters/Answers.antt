@@ -1,11 +1,9 @@
-use borrow.Author.Rules.{rules}
-use Prim.Native.Nat.{◌+◌, ◌-◌, ◌≤◌, ◌<◌}
+use Prim.Native.Nat.{◌+◌, ◌<◌}
 use native.Mathlib.Omega.{arith}
 use mathlib.Core.Path.{◌≡◌, refl, sym, ap, ◌∙◌}
-use lib.ListN.{length, take, drop, length-set}
+use lib.ListN.{drop, length-set}
 use lib.Seq.{drop-drop, drop-set-lt}
-use Rattle.words.specs.Names.{name_of}
-use Rattle.words.proofs.NameWord.{codes_left, left-start, left-some, left-more, left-put, named-most, named-into}
+use Rattle.words.proofs.NameWord.{left-start, left-some, left-more, left-put, named-most, named-into}
 use Rattle.words_names.proofs.names.put_letters.Goals as goal
 
 pub loop-i-init : goal.loop-i-init

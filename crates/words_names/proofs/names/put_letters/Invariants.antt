@@ -1,12 +1,9 @@
 -- `names::put_letters` is right because the letters put are always the name's first. Assumes nothing.
-use borrow.Author.Rules.{rules}
-use Prim.Native.Nat.{◌+◌, ◌-◌, ◌≤◌, ◌<◌}
-use native.Mathlib.Omega.{arith}
-use mathlib.Core.Path.{◌≡◌, refl, sym, ap, ◌∙◌}
-use lib.ListN.{length, take, drop, length-set}
-use lib.Seq.{drop-drop, drop-set-lt}
+use Prim.Native.Nat.{◌-◌, ◌≤◌}
+use mathlib.Core.Path.{◌≡◌}
+use lib.ListN.{length, take, drop}
 use Rattle.words.specs.Names.{name_of}
-use Rattle.words.proofs.NameWord.{codes_left, left-start, left-some, left-more, left-put, named-most, named-into}
+use Rattle.words.proofs.NameWord.{codes_left}
 use Rattle.words_names.proofs.names.put_letters.Given as goal
 
 abbrev pub invariant-loop-i : goal.invariant-loop-i

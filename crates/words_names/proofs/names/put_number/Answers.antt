@@ -1,5 +1,4 @@
 -- `names::put_number` is right because the blanks and the digits fill the field to its end. Assumes nothing.
-use borrow.Author.Rules.{rules}
 use Prim.Native.Nat.{◌-◌}
 use native.Mathlib.Omega.{arith}
 use mathlib.Core.Path.{◌≡◌, ap, ◌∙◌}

@@ -1,12 +1,11 @@
-use borrow.Author.Rules.{rules}
 use Prim.Native.Nat.{◌-◌, ◌^◌}
 use native.Mathlib.Omega.{arith}
 use mathlib.Core.Path.{◌≡◌, refl, sym, ◌∙◌}
-use lib.ListN.{length, get_or}
+use lib.ListN.{get_or}
 use Rattle.words.specs.Names.{is_name_byte}
 use Rattle.words.proofs.AllPass.{passes, stops}
 use Rattle.words.proofs.Powers.{power-more, power-low, power-fits, power_in}
-use Rattle.words.proofs.NameWord.{Packed, no-letters, many-letters, other-letter, letter-low, letter-high, letter-good, pack-more, pack-end}
+use Rattle.words.proofs.NameWord.{no-letters, many-letters, other-letter, letter-low, letter-high, letter-good, pack-more, pack-end}
 use Rattle.words_names.proofs.names.word_of_name.Goals as goal
 
 pub returns-then-name-eq0 : goal.returns-then-name-eq0

@@ -2,7 +2,6 @@
 use mathlib.Core.Path.{ap, ◌∙◌}
 use native.Mathlib.Omega.{arith}
 use lib.ListN.{drop, length-drop}
-use borrow.Author.Rules.{rules}
 use Rattle.words_packing.specs.Pack.{number_of}
 use Rattle.words_packing.proofs.NumberBytes.{below-known, below-drop, low-eight, turned-number}
 use Rattle.words_packing.proofs.eights.high.Goals as goal

@@ -1,5 +1,4 @@
 -- Right because the eight bytes from the place are the eight that are read (`eight-at`). Assumes nothing.
-use borrow.Author.Rules.{rules}
 use Rattle.words_packing.proofs.NumberBytes.{eight-at}
 use Rattle.words_packing.proofs.eights.low.Goals as goal
 

@@ -1,6 +1,5 @@
 -- Right because a number turned round, written lowest first, is that written highest first (`low-bytes`). Assumes nothing.
 use mathlib.Core.Path.{◌∙◌}
-use borrow.Author.Rules.{rules}
 use Rattle.words_packing.specs.Pack.{bytes_of}
 use Rattle.words_packing.proofs.NumberBytes.{bytes_below, low-bytes}
 use Rattle.words_packing.proofs.eights.put_high.Goals as goal

@@ -1,11 +1,9 @@
 use mathlib.Core.Path.{◌≡◌, ◌∙◌}
 use mathlib.Core.List.{[]}
-use Prim.Native.Nat.{suc, ◌+◌, ◌-◌, ◌%◌, ◌≤◌}
+use Prim.Native.Nat.{suc, ◌+◌, ◌-◌, ◌%◌}
 use native.Mathlib.Omega.{arith}
 use lib.ListN.{drop, drop_of_length-le}
-use borrow.Author.Rules.{rules}
-use Rattle.words_packing.specs.Pack.{low_bytes}
-use Rattle.words_packing.proofs.WrittenSoFar.{Filling, fill_start, fill-set, fill_end}
+use Rattle.words_packing.proofs.WrittenSoFar.{fill_start, fill-set, fill_end}
 use Rattle.words_packing.proofs.eights.put_low.Goals as goal
 
 pub loop-i-init : goal.loop-i-init

@@ -1,12 +1,7 @@
 -- Right because the bytes written, and those of what is left of the number, are all of its bytes (`Filling`). Assumes nothing.
-use mathlib.Core.Path.{◌≡◌, ◌∙◌}
-use mathlib.Core.List.{[]}
-use Prim.Native.Nat.{suc, ◌+◌, ◌-◌, ◌%◌, ◌≤◌}
-use native.Mathlib.Omega.{arith}
-use lib.ListN.{drop, drop_of_length-le}
-use borrow.Author.Rules.{rules}
+use Prim.Native.Nat.{◌-◌, ◌≤◌}
 use Rattle.words_packing.specs.Pack.{low_bytes}
-use Rattle.words_packing.proofs.WrittenSoFar.{Filling, fill_start, fill-set, fill_end}
+use Rattle.words_packing.proofs.WrittenSoFar.{Filling}
 use Rattle.words_packing.proofs.eights.put_low.Given as goal
 
 abbrev pub invariant-loop-i : goal.invariant-loop-i

@@ -1,13 +1,10 @@
 -- Right because the test of the words from i on is the test of all: those before have passed.
-use mathlib.Core.Path.{◌≡◌, ap, sym, ◌∙◌}
-use Prim.Native.Nat.{◌+◌, ◌-◌, ◌^◌, ◌≤◌, ◌<◌}
-use native.Mathlib.Omega.{arith}
-use lib.ListN.{length, take, drop}
-use borrow.Author.Rules.{rules}
+use mathlib.Core.Path.{◌≡◌}
+use Prim.Native.Nat.{◌-◌, ◌≤◌}
+use lib.ListN.{length, drop}
 use Rattle.words.specs.Base.{all}
-use Rattle.words_packing.specs.Pack.{low_number, words_of_eights}
+use Rattle.words_packing.specs.Pack.{words_of_eights}
 use Rattle.words.specs.Base.{is_word}
-use Rattle.words_packing.proofs.PackedPair.{all_more, all-fails, eights_at, eights-end}
 use Rattle.words_packing.proofs.packer.are_eights.Given as goal
 
 abbrev pub invariant-loop-i : goal.invariant-loop-i

@@ -1,7 +1,6 @@
 -- Right because each way out has its law: too little space, a word too large, all written.
 use mathlib.Core.Path.{sym, ◌∙◌}
 use native.Mathlib.Omega.{arith}
-use borrow.Author.Rules.{rules}
 use Rattle.words_packing.proofs.PackAnswer.{pack-short, pack-wide, pack-done}
 use Rattle.words_packing.proofs.packer.pack.Goals as goal
 

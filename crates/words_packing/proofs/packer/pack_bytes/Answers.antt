@@ -3,7 +3,6 @@ use mathlib.Core.Path.{sym, ◌∙◌}
 use Prim.Native.Nat.{◌/◌, ◌<◌, ◌≤◌}
 use lib.ListN.{length}
 use native.Mathlib.Omega.{arith}
-use borrow.Author.Rules.{rules}
 use Rattle.words_packing.specs.Pack.{packed_length, words_of_eights}
 use Rattle.words_packing.proofs.PackAnswer.{pack-short, pack-wide, pack-done, eights-odd, eights-even, eights-count}
 use Rattle.words_packing.proofs.packer.pack_bytes.Goals as goal

@@ -1,6 +1,5 @@
 -- Right because the high eight and the low eight of the 15 bytes agree on the one that they share (`put-pair`).
 use native.Mathlib.Omega.{arith}
-use borrow.Author.Rules.{rules}
 use Rattle.words_packing.proofs.PackedPair.{put-pair}
 use Rattle.words_packing.proofs.packer.put_pair.Goals as goal
 

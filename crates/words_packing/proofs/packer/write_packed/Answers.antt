@@ -1,12 +1,12 @@
 use mathlib.Core.Path.{◌≡◌, refl}
-use Prim.Native.Nat.{◌+◌, ◌-◌, ◌*◌, ◌^◌, ◌≤◌}
+use Prim.Native.Nat.{◌+◌, ◌^◌, ◌≤◌}
 use native.Mathlib.Omega.{arith}
 use lib.ListN.{length, get_or, drop, drop_of_length-le}
 use borrow.Rule.Slice.PartMut.{Post-is}
 use borrow.Author.Rules.{rules}
-use Rattle.words_packing.specs.Pack.{packed, packed_length}
+use Rattle.words_packing.specs.Pack.{packed_length}
 use Rattle.words_packing.proofs.NumberBytes.{all-below, below_at}
-use Rattle.words_packing.proofs.WrittenSoFar.{Filling, fill_start}
+use Rattle.words_packing.proofs.WrittenSoFar.{fill_start}
 use Rattle.words_packing.proofs.PackedPair.{pack-more, pack-last, pack-end, two_at, one_at}
 use Rattle.words_packing.proofs.packer.write_packed.Goals as goal
 

@@ -1,14 +1,9 @@
 -- Right because what is written, and the words from i on packed, are all of the words packed (`Filling`); a turn moves 15 bytes over.
-use mathlib.Core.Path.{◌≡◌, refl}
-use Prim.Native.Nat.{◌+◌, ◌-◌, ◌*◌, ◌^◌, ◌≤◌}
-use native.Mathlib.Omega.{arith}
-use lib.ListN.{length, get_or, drop, drop_of_length-le}
-use borrow.Rule.Slice.PartMut.{Post-is}
-use borrow.Author.Rules.{rules}
-use Rattle.words_packing.specs.Pack.{packed, packed_length}
-use Rattle.words_packing.proofs.NumberBytes.{all-below, below_at}
-use Rattle.words_packing.proofs.WrittenSoFar.{Filling, fill_start}
-use Rattle.words_packing.proofs.PackedPair.{pack-more, pack-last, pack-end, two_at, one_at}
+use mathlib.Core.Path.{◌≡◌}
+use Prim.Native.Nat.{◌-◌, ◌*◌, ◌≤◌}
+use lib.ListN.{length, drop}
+use Rattle.words_packing.specs.Pack.{packed}
+use Rattle.words_packing.proofs.WrittenSoFar.{Filling}
 use Rattle.words_packing.proofs.packer.write_packed.Given as goal
 
 abbrev pub invariant-loop-i : goal.invariant-loop-i

@@ -1,12 +1,12 @@
 use mathlib.Core.Path.{◌≡◌, refl}
-use Prim.Native.Nat.{◌+◌, ◌-◌, ◌*◌, ◌/◌, ◌%◌, ◌^◌, ◌≤◌}
+use Prim.Native.Nat.{◌+◌, ◌/◌, ◌^◌, ◌≤◌}
 use native.Mathlib.Omega.{arith}
 use lib.ListN.{length, take, drop}
 use borrow.Rule.Slice.PartMut.{Post-is}
 use borrow.Author.Rules.{rules}
-use Rattle.words_packing.specs.Pack.{low_number, packed, packed_length, words_of_eights}
-use Rattle.words_packing.proofs.NumberBytes.{Below, all-below}
-use Rattle.words_packing.proofs.WrittenSoFar.{Filling, fill_start}
+use Rattle.words_packing.specs.Pack.{low_number, packed_length, words_of_eights}
+use Rattle.words_packing.proofs.NumberBytes.{all-below}
+use Rattle.words_packing.proofs.WrittenSoFar.{fill_start}
 use Rattle.words_packing.proofs.PackedPair.{pack-more, pack-last, pack-end, two-eights, one-eight, eights-end}
 use Rattle.words_packing.proofs.packer.write_packed_eights.Goals as goal
 

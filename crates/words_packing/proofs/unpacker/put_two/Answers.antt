@@ -1,6 +1,5 @@
 -- Right because the two parts lie beside one another and are all of the space (`put_two`).
 use native.Mathlib.Omega.{arith}
-use borrow.Author.Rules.{rules}
 use Rattle.words_packing.proofs.UnpackedPair.{put_two}
 use Rattle.words_packing.proofs.unpacker.put_two.Goals as goal
 

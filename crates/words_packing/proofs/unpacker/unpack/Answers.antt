@@ -1,7 +1,6 @@
 -- Right because the answer is tested first, and only one of done writes.
 use mathlib.Core.Path.{sym, ◌∙◌}
 use lib.ListN.{length}
-use borrow.Author.Rules.{rules}
 use Rattle.words_packing.specs.Pack.{space_after}
 use Rattle.words_packing.proofs.PackAnswer.{accepted}
 use Rattle.words_packing.proofs.UnpackAnswer.{unpack-done}

@@ -3,7 +3,6 @@ use mathlib.Core.Path.{sym, ◌∙◌}
 use Prim.Native.Nat.{◌/◌}
 use native.Mathlib.Omega.{arith}
 use lib.ListN.{length}
-use borrow.Author.Rules.{rules}
 use Rattle.words_packing.specs.Pack.{space_after}
 use Rattle.words_packing.proofs.PackAnswer.{accepted}
 use Rattle.words_packing.proofs.UnpackAnswer.{unpack-eights-odd, unpack-eights-even, unpack-eights-done}

@@ -1,11 +1,10 @@
 use mathlib.Core.Path.{◌≡◌, refl}
-use Prim.Native.Nat.{◌+◌, ◌-◌, ◌*◌, ◌/◌, ◌%◌, ◌^◌, ◌≤◌}
+use Prim.Native.Nat.{◌+◌, ◌/◌, ◌%◌, ◌^◌}
 use native.Mathlib.Omega.{arith}
 use lib.ListN.{length, take, drop, length-drop, length-set}
-use borrow.Author.Rules.{rules}
-use Rattle.words_packing.specs.Pack.{number_of, unpacked, unpacked_length}
+use Rattle.words_packing.specs.Pack.{number_of, unpacked_length}
 use Rattle.words_packing.proofs.NumberBytes.{below-known}
-use Rattle.words_packing.proofs.WrittenSoFar.{Filling, fill_start, fill-two, fill-set, fill_end}
+use Rattle.words_packing.proofs.WrittenSoFar.{fill_start, fill-two, fill-set, fill_end}
 use Rattle.words_packing.proofs.UnpackedPair.{pair-at, left_over, unpacked-last, unpacked-none}
 use Rattle.words_packing.proofs.unpacker.write_unpacked.Goals as goal
 

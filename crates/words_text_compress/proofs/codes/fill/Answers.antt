@@ -1,11 +1,10 @@
-use borrow.Author.Rules.{rules}
 use Prim.Native.Nat.{◌-◌, ◌^◌, ◌≤◌, ◌<◌}
 use native.Mathlib.Omega.{arith}
 use mathlib.Core.Path.{◌≡◌, refl, ◌∙◌}
 use lib.ListN.{length, get_or, length-set}
 use Rattle.words.specs.Text.{words_of}
 use Rattle.words.proofs.Powers.{power-more, power-low, power-fits, power_in}
-use Rattle.words_text_compress.proofs.FilledWords.{Filled, owed_more, owed-next, beyond-more, fill-whole, fill-part}
+use Rattle.words_text_compress.proofs.FilledWords.{owed_more, owed-next, beyond-more, fill-whole, fill-part}
 use Rattle.words_text_compress.proofs.codes.fill.Goals as goal
 
 pub loop-i-init : goal.loop-i-init

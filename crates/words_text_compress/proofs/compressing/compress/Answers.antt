@@ -1,8 +1,6 @@
 -- `compressing::compress` is right because it refuses in the order of `compressing`, and writes only past both refusals. Assumes nothing.
-use borrow.Author.Rules.{rules}
 use native.Mathlib.Omega.{arith}
 use mathlib.Core.Path.{sym, ◌∙◌}
-use borrow.Author.Tests.{not-true, not-false}
 use Rattle.words_text_compress.proofs.CompressAnswer.{outside, long, words}
 use Rattle.words_text_compress.proofs.compressing.compress.Goals as goal
 

@@ -1,5 +1,4 @@
 -- `line::put_blanks` is right because a run above 64 is one of 64 and the rest. Assumes nothing.
-use borrow.Author.Rules.{rules}
 use native.Mathlib.Omega.{arith}
 use Rattle.words_text_compress.proofs.CodesBehind.{put_as, put_then, blanks-short, blanks-long}
 use Rattle.words_text_compress.proofs.line.put_blanks.Goals as goal

@@ -1,5 +1,4 @@
 -- `line::put_lead` is right because a leading blank is its own code, and any other first column is left to the rest. Assumes nothing.
-use borrow.Author.Rules.{rules}
 use native.Mathlib.Omega.{arith}
 use mathlib.Core.Path.{◌≡◌}
 use Prim.Native.Nat.{◌<◌}

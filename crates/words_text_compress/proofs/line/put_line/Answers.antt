@@ -1,15 +1,13 @@
-use borrow.Author.Rules.{rules}
-use Prim.Native.Nat.{◌-◌}
 use native.Mathlib.Omega.{arith}
 use mathlib.Core.Path.{◌≡◌, sym, ◌∙◌}
 use mathlib.Core.List.{[]}
-use lib.ListN.{length, get_or, length-append}
+use lib.ListN.{get_or, length-append}
 use Rattle.words.specs.Display.{code_of}
 use Rattle.words.specs.Text.{gap, blanks, sign}
 use Rattle.words.proofs.ChartBothWays.{blank-code, code-blank}
 use Rattle.words.proofs.CompressedLine.{length-blanks, length-sign}
 use Rattle.words_text_compress.proofs.CodesBehind.{put_then}
-use Rattle.words_text_compress.proofs.SqueezedLine.{Squeezed, left-gap, left-sign, left_end}
+use Rattle.words_text_compress.proofs.SqueezedLine.{left-gap, left-sign, left_end}
 use Rattle.words_text_compress.proofs.line.put_line.Goals as goal
 
 pub loop-i-init : goal.loop-i-init

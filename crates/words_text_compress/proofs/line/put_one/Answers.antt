@@ -1,5 +1,4 @@
 -- `line::put_one` is right because a store at a place is one more element behind those ahead of it. Assumes nothing.
-use borrow.Author.Rules.{rules}
 use Rattle.words_text_compress.proofs.CodesBehind.{put_one}
 use Rattle.words_text_compress.proofs.line.put_one.Goals as goal
 

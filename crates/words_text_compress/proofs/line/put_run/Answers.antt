@@ -1,5 +1,4 @@
 -- `line::put_run` is right because each length of a run is written as `short_run` has it. Assumes nothing.
-use borrow.Author.Rules.{rules}
 use Prim.Native.Nat.{◌≤◌}
 use native.Mathlib.Omega.{arith}
 use mathlib.Core.Path.{◌≡◌, sym}

@@ -1,5 +1,4 @@
 -- `line::put_sign` is right because a colon, code 0, is written as 0001 and any other code as it is. Assumes nothing.
-use borrow.Author.Rules.{rules}
 use Rattle.words_text_compress.proofs.CodesBehind.{put_as, sign_zero, sign-other}
 use Rattle.words_text_compress.proofs.line.put_sign.Goals as goal
 

@@ -1,5 +1,4 @@
 -- `line::put_two` is right because it puts one code and then another. Assumes nothing.
-use borrow.Author.Rules.{rules}
 use mathlib.Core.List.{[], ◌∷◌}
 use Rattle.words_text_compress.proofs.CodesBehind.{put_then}
 use Rattle.words_text_compress.proofs.line.put_two.Goals as goal

@@ -1,5 +1,4 @@
 -- `columns::put_column` is right because a column is written at a place and nothing behind it is. Assumes nothing.
-use borrow.Author.Rules.{rules}
 use Rattle.words_text_expand.proofs.ColumnsBehind.{placed_one}
 use Rattle.words_text_expand.proofs.columns.put_column.Goals as goal
 

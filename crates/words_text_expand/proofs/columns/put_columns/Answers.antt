@@ -1,9 +1,8 @@
-use borrow.Author.Rules.{rules}
-use Prim.Native.Nat.{◌+◌, ◌-◌, ◌≤◌}
+use Prim.Native.Nat.{◌+◌, ◌-◌}
 use native.Mathlib.Omega.{arith}
 use mathlib.Core.Path.{◌≡◌, refl}
-use lib.ListN.{length, replicate, length-set}
-use Rattle.words_text_expand.proofs.ColumnsBehind.{Placed, placed-none, placed-more}
+use lib.ListN.{length-set}
+use Rattle.words_text_expand.proofs.ColumnsBehind.{placed-none, placed-more}
 use Rattle.words_text_expand.proofs.columns.put_columns.Goals as goal
 
 pub loop-i-init : goal.loop-i-init

@@ -1,10 +1,8 @@
 -- `columns::put_columns` is right because each turn puts one column more behind those that are there. Assumes nothing.
-use borrow.Author.Rules.{rules}
-use Prim.Native.Nat.{◌+◌, ◌-◌, ◌≤◌}
-use native.Mathlib.Omega.{arith}
-use mathlib.Core.Path.{◌≡◌, refl}
-use lib.ListN.{length, replicate, length-set}
-use Rattle.words_text_expand.proofs.ColumnsBehind.{Placed, placed-none, placed-more}
+use Prim.Native.Nat.{◌-◌, ◌≤◌}
+use mathlib.Core.Path.{◌≡◌}
+use lib.ListN.{length, replicate}
+use Rattle.words_text_expand.proofs.ColumnsBehind.{Placed}
 use Rattle.words_text_expand.proofs.columns.put_columns.Given as goal
 
 abbrev pub invariant-loop-i : goal.invariant-loop-i

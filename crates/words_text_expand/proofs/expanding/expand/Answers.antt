@@ -1,7 +1,6 @@
 -- `expanding::expand` is right because it says the columns of words that are text, and of no others. Assumes nothing.
 use borrow.Author.Rules.{rules}
 use mathlib.Core.Path.{sym, ◌∙◌}
-use borrow.Author.Tests.{not-true, not-false}
 use Rattle.words_text_expand.proofs.ExpandAnswer.{no_text, columns}
 use Rattle.words_text_expand.proofs.expanding.expand.Goals as goal
 

@@ -1,7 +1,5 @@
 use borrow.Author.Rules.{rules}
-use Prim.Native.Nat.{◌-◌}
-use lib.ListN.{length}
-use Rattle.words_text_expand.proofs.SaidColumns.{SaidText, text-start, word_below, word_fits, text-more, text-end}
+use Rattle.words_text_expand.proofs.SaidColumns.{text-start, word_below, word_fits, text-more, text-end}
 use Rattle.words_text_expand.proofs.say.say.Goals as goal
 
 pub loop-i-init : goal.loop-i-init

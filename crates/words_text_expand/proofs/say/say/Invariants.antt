@@ -1,8 +1,7 @@
 -- `say::say` is right because the columns that are put, then those that the words left say, are always the whole line. Assumes nothing.
-use borrow.Author.Rules.{rules}
 use Prim.Native.Nat.{◌-◌}
 use lib.ListN.{length}
-use Rattle.words_text_expand.proofs.SaidColumns.{SaidText, text-start, word_below, word_fits, text-more, text-end}
+use Rattle.words_text_expand.proofs.SaidColumns.{SaidText}
 use Rattle.words_text_expand.proofs.say.say.Given as goal
 
 abbrev pub invariant-loop-i : goal.invariant-loop-i

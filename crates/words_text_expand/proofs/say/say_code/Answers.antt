@@ -1,5 +1,4 @@
 -- `say::say_code` is right because it goes by what is ahead and by the code, as its definition does. Assumes nothing.
-use borrow.Author.Rules.{rules}
 use native.Mathlib.Omega.{arith}
 use mathlib.Core.List.{[], ◌∷◌}
 use Rattle.words.specs.Display.{letter}

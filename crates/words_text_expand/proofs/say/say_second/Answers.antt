@@ -1,5 +1,4 @@
 -- `say::say_second` is right because 1 says a colon and more says blanks. Assumes nothing.
-use borrow.Author.Rules.{rules}
 use Rattle.words_text_expand.proofs.ColumnsBehind.{placed-as, placed-run}
 use Rattle.words_text_expand.proofs.SaidColumns.{second-colon, second_run, colon-fits, run_fits}
 use Rattle.words_text_expand.proofs.say.say_second.Goals as goal

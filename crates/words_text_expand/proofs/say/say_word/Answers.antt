@@ -1,6 +1,5 @@
 use borrow.Author.Rules.{rules}
-use Prim.Native.Nat.{◌-◌}
-use Rattle.words_text_expand.proofs.SaidColumns.{SaidWord, word-start, code_below, code_fits, word_more, word_end}
+use Rattle.words_text_expand.proofs.SaidColumns.{word-start, code_below, code_fits, word_more, word_end}
 use Rattle.words_text_expand.proofs.say.say_word.Goals as goal
 
 pub loop-k-init : goal.loop-k-init

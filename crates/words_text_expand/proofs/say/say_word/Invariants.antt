@@ -1,7 +1,6 @@
 -- `say::say_word` is right because the columns put, then those that the codes still at the top of w say, are always the whole word's. Assumes nothing.
-use borrow.Author.Rules.{rules}
 use Prim.Native.Nat.{◌-◌}
-use Rattle.words_text_expand.proofs.SaidColumns.{SaidWord, word-start, code_below, code_fits, word_more, word_end}
+use Rattle.words_text_expand.proofs.SaidColumns.{SaidWord}
 use Rattle.words_text_expand.proofs.say.say_word.Given as goal
 
 abbrev pub invariant-loop-k : goal.invariant-loop-k

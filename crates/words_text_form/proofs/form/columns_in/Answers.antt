@@ -1,5 +1,4 @@
 -- `form::columns_in` is right because its sum is the count of columns at every code. Assumes nothing.
-use borrow.Author.Rules.{rules}
 use native.Mathlib.Omega.{arith}
 use Rattle.words_text_form.proofs.FormTable.{columns-held, due-few}
 use Rattle.words_text_form.proofs.form.columns_in.Goals as goal

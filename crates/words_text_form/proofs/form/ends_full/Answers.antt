@@ -1,5 +1,4 @@
 -- `form::ends_full` is right because the last word decides. Assumes nothing.
-use borrow.Author.Rules.{rules}
 use native.Mathlib.Omega.{arith}
 use mathlib.Core.Path.{sym}
 use Rattle.words_text_form.proofs.FormWalk.{last_word_lem, no_word}

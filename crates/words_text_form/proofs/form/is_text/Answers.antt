@@ -1,9 +1,5 @@
-use borrow.Author.Rules.{rules}
-use Prim.Native.Nat.{◌-◌}
 use mathlib.Core.Path.{sym, ◌∙◌}
-use borrow.Author.Tests.{not-true, not-false}
-use lib.ListN.{length}
-use Rattle.words_text_form.proofs.FormWalk.{Walking, long-text, not_full, walking_start, walking-stop, walking-more, walking-end}
+use Rattle.words_text_form.proofs.FormWalk.{long-text, not_full, walking_start, walking-stop, walking-more, walking-end}
 use Rattle.words_text_form.proofs.form.is_text.Goals as goal
 
 pub returns-then-text-gt-WORDS : goal.returns-then-text-gt-WORDS

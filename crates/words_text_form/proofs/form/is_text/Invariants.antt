@@ -1,10 +1,7 @@
 -- `form::is_text` is right because words are text where their codes, taken one by one, are in the one right form. Assumes nothing.
-use borrow.Author.Rules.{rules}
 use Prim.Native.Nat.{◌-◌}
-use mathlib.Core.Path.{sym, ◌∙◌}
-use borrow.Author.Tests.{not-true, not-false}
 use lib.ListN.{length}
-use Rattle.words_text_form.proofs.FormWalk.{Walking, long-text, not_full, walking_start, walking-stop, walking-more, walking-end}
+use Rattle.words_text_form.proofs.FormWalk.{Walking}
 use Rattle.words_text_form.proofs.form.is_text.Given as goal
 
 abbrev pub invariant-loop-i : goal.invariant-loop-i

@@ -1,5 +1,4 @@
 -- `form::step` is right because a code's fields hold what may follow it. Assumes nothing.
-use borrow.Author.Rules.{rules}
 use Rattle.words_text_form.proofs.FormTable.{next-held}
 use Rattle.words_text_form.proofs.form.step.Goals as goal
 

@@ -1,7 +1,5 @@
-use borrow.Author.Rules.{rules}
-use Prim.Native.Nat.{◌-◌}
 use native.Mathlib.Omega.{arith}
-use Rattle.words_text_form.proofs.FormWalk.{Walked, walked_start, columns-few, walked_more, walked_all}
+use Rattle.words_text_form.proofs.FormWalk.{walked_start, columns-few, walked_more, walked_all}
 use Rattle.words_text_form.proofs.form.walk_word.Goals as goal
 
 pub loop-k-init : goal.loop-k-init

@@ -1,8 +1,6 @@
 -- `form::walk_word` is right because the codes still at the top of w give what the whole word gives. Assumes nothing.
-use borrow.Author.Rules.{rules}
 use Prim.Native.Nat.{◌-◌}
-use native.Mathlib.Omega.{arith}
-use Rattle.words_text_form.proofs.FormWalk.{Walked, walked_start, columns-few, walked_more, walked_all}
+use Rattle.words_text_form.proofs.FormWalk.{Walked}
 use Rattle.words_text_form.proofs.form.walk_word.Given as goal
 
 abbrev pub invariant-loop-k : goal.invariant-loop-k
