@@ -1,5 +1,5 @@
 // A case's line.
-use libc::STDOUT_FILENO;
+use std::io;
 
 #[derive(Clone, Copy)]
 pub enum Answer {
@@ -13,32 +13,28 @@ pub enum Answer {
     Truncated,
 }
 
-fn write_number(n: u64, then: &[u8]) {
-    io::print_decimal(STDOUT_FILENO, n);
-    io::write_all(STDOUT_FILENO, then);
+// Each line is made whole and then written, so that an answer takes one call of the system.
+fn write_numbers(
+    rt: &impl Print,
+    number: u64,
+    first: u64,
+    second: u64,
+    sum: u64,
+) -> io::Result<()> {
+    println!(rt; "{number} {first} {second} {sum}")
 }
 
-fn write_blank(n: u64) {
-    write_number(n, b" ");
+fn write_why(rt: &impl Print, op: u8, why: &str) -> io::Result<()> {
+    println!(rt; "cases: op {op} {why}")
 }
 
-fn write_numbers(number: u64, first: u64, second: u64, sum: u64) {
-    write_blank(number);
-    write_blank(first);
-    write_blank(second);
-    write_number(sum, b"\n");
-}
-
-fn write_why(op: u8, why: &[u8]) {
-    io::write_all(STDOUT_FILENO, b"cases: op ");
-    write_number(op as u64, why);
-}
-
-pub fn write(op: u8, a: Answer) {
+pub fn write(rt: &impl Print, op: u8, a: Answer) -> io::Result<()> {
     match a {
-        Answer::Numbers(number, first, second, sum) => write_numbers(number, first, second, sum),
-        Answer::NotCarried => write_why(op, b" not carried\n"),
-        Answer::Beyond => write_why(op, b" beyond the program's arrays\n"),
-        Answer::Truncated => write_why(op, b" cut short by the end of the input\n"),
+        Answer::Numbers(number, first, second, sum) => {
+            write_numbers(rt, number, first, second, sum)
+        }
+        Answer::NotCarried => write_why(rt, op, "not carried"),
+        Answer::Beyond => write_why(rt, op, "beyond the program's arrays"),
+        Answer::Truncated => write_why(rt, op, "cut short by the end of the input"),
     }
 }

@@ -15,64 +15,85 @@ mod space;
 use answer::Answer;
 use feed::{BYTES, Feed, INPUT, WORDS};
 use ops::{FILE, LIBRARY};
+use std::io;
+use std::io::Read;
 
 // Reads a case, its head and then its blobs. The feed is over when the input has ended within it.
-fn read(
+fn read<R: Read>(
+    reader: &mut R,
     input: &mut [u8; INPUT],
     feed: Feed,
     head: &mut [u8; 13],
     words: &mut [u64; WORDS],
     bytes: &mut [u8; BYTES],
-) -> Feed {
-    let past = feed::take_bytes(input, feed, head);
-    feed::load(input, past, cases_sums::read_head(head), words, bytes)
+) -> io::Result<Feed> {
+    let past = feed::take_bytes(reader, input, feed, head)?;
+    feed::load(
+        reader,
+        input,
+        past,
+        cases_sums::read_head(head),
+        words,
+        bytes,
+    )
 }
 
 // Answers the case that was read.
 fn answer_one(
+    rt: &impl Print,
     over: bool,
     head: &[u8; 13],
     words: &[u64; WORDS],
     bytes: &[u8; BYTES],
     library: &mut [u64; LIBRARY],
     file: &mut [u8; FILE],
-) {
+) -> io::Result<()> {
     let h = cases_sums::read_head(head);
     if over {
-        answer::write(h.op, Answer::Truncated);
-        return;
+        return answer::write(rt, h.op, Answer::Truncated);
     }
-    answer::write(h.op, ops::answer(h, words, bytes, library, file));
+    answer::write(rt, h.op, ops::answer(h, words, bytes, library, file))
 }
 
 // A proved loop has to end, and nothing says that the input does: the turns count down from a number that no run uses up.
-fn answer_all(
+fn answer_all<R: Read>(
+    rt: &impl Print,
+    reader: &mut R,
     input: &mut [u8; INPUT],
     words: &mut [u64; WORDS],
     bytes: &mut [u8; BYTES],
     library: &mut [u64; LIBRARY],
     file: &mut [u8; FILE],
-) {
+) -> io::Result<()> {
     let mut head = [0u8; 13];
     let mut feed = feed::start();
     let mut turns = u64::MAX;
     while turns > 0 {
-        feed = feed::ready(input, feed);
+        feed = feed::ready(reader, input, feed)?;
         if feed.over {
-            return;
+            return Ok(());
         }
-        feed = read(input, feed, &mut head, words, bytes);
-        answer_one(feed.over, &head, words, bytes, library, file);
+        feed = read(reader, input, feed, &mut head, words, bytes)?;
+        answer_one(rt, feed.over, &head, words, bytes, library, file)?;
         turns -= 1;
     }
+    Ok(())
 }
 
-// The arrays are made once, and lent to every case.
-fn main() {
+// The arrays are made once, and lent to every case. A read or a write that fails ends the program with its error.
+fn main(rt: HostRuntime) -> io::Result<()> {
     let mut input = [0u8; INPUT];
     let mut words = [0u64; WORDS];
     let mut bytes = [0u8; BYTES];
     let mut library = [0u64; LIBRARY];
     let mut file = [0u8; FILE];
-    answer_all(&mut input, &mut words, &mut bytes, &mut library, &mut file);
+    answer_all(
+        &rt,
+        &mut rt.stdin(),
+        &mut input,
+        &mut words,
+        &mut bytes,
+        &mut library,
+        &mut file,
+    )
 }

@@ -1,5 +1,5 @@
 // The ops. One more is an arm of `answer` and a function that lends the fronts of the arrays to the engine; none needs a proof file.
-ghost use Rattle.io.specs.Counts.{IsPrefixLen};
+ghost use Rattle.cases.specs.Counts.{IsPrefixLen};
 
 use crate::answer::Answer;
 use crate::space::{front_bytes, front_words};

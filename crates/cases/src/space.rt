@@ -1,5 +1,5 @@
 // The part of an array that is lent to a call.
-ghost use Rattle.io.specs.Counts.{IsPrefixLen};
+ghost use Rattle.cases.specs.Counts.{IsPrefixLen};
 
 // n, or all of `s` where that is shorter. The contract is what `&s[..r]` asks, so that whoever lends it needs no proof file.
 pub fn front_bytes(n: usize, s: &[u8]) -> usize

@@ -1,7 +1,7 @@
 // The compile program (RULES, "The compile program"): a packed library on standard input; on standard output its compile file, or the line of its refusal.
 #![tactic(auto)]
 
-ghost use Rattle.std.specs.Prelude.{◌≡◌, ◌++◌, length, drop};
+ghost use Rattle.std.specs.Prelude.{◌≡◌, ◌≤◌, ◌++◌, length, drop, IfOk};
 ghost use Rattle.compile_file.specs.Written.{Wrote};
 ghost use Rattle.words_packing.specs.Pack.{unpacking, unpacked};
 ghost use Rattle.compile.specs.Compile.{compiling, program_of, after_unpacking, program};
@@ -10,7 +10,8 @@ mod line;
 
 use crate::line::{put_refused, put_refused_card};
 use compile::Compiled;
-use libc::{STDIN_FILENO, STDOUT_FILENO};
+use std::io;
+use std::io::Read;
 use words_packing::Packing;
 
 // the most bytes of input, and the row of a longer one
@@ -71,14 +72,30 @@ fn program(input: &[u8], out: &mut [u8; SPACE]) -> usize
 }
 
 // All that is written is what `program` makes of the input.
-fn write(input: &[u8]) {
+fn write(rt: &impl Print, input: &[u8]) -> io::Result<()> {
     let mut out = [0u8; SPACE];
     let n = program(input, &mut out);
-    io::write_all(STDOUT_FILENO, &out[..n]);
+    rt.write_all(&out[..n])
 }
 
-fn main() {
+// Reads until the buffer is full or the input ends: how many bytes it put at the buffer's start.
+fn read_full<R: Read>(reader: &mut R, buf: &mut [u8]) -> io::Result<usize>
+    ensures { IfOk result (λ n. n ≤ length buf.new) }
+{
+    let mut done = 0;
+    while done < buf.len() {
+        let n = reader.read(&mut buf[done..])?;
+        if n == 0 {
+            break;
+        }
+        done += n;
+    }
+    Ok(done)
+}
+
+// A read or a write that fails ends the program with its error.
+fn main(rt: HostRuntime) -> io::Result<()> {
     let mut input = [0u8; INPUT];
-    let n = io::read_full(STDIN_FILENO, &mut input);
-    write(&input[..n]);
+    let n = read_full(&mut rt.stdin(), &mut input)?;
+    write(&rt, &input[..n])
 }

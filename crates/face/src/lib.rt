@@ -1,4 +1,4 @@
-// What C calls. Each function answers the table's number and sets its values through references, in both cases.
+// What C calls (`face_c` exports it). Each function answers the table's number and sets its values through references, in both cases.
 #![tactic(auto)]
 
 ghost use Rattle.std.specs.Prelude.{◌≡◌, length};
@@ -12,8 +12,7 @@ ghost use Rattle.compile.specs.Compile.{compiling, compiled, compile_into, compi
 ghost use Rattle.words_packing.specs.Pack.{packing_eights, unpacking_eights, pack_eights_into, unpack_eights_into, packing_number, packing_value};
 
 // Words of eight bytes, packed.
-#[unsafe(no_mangle)]
-pub extern "C" fn galdwist_pack(words: &[u8], out: &mut [u8], written: &mut u64) -> u64
+pub fn galdwist_pack(words: &[u8], out: &mut [u8], written: &mut u64) -> u64
     ensures number { result ≡ packing_number (packing_eights words.now (length out.old)) }
     ensures space { out.new ≡ pack_eights_into words.now out.old }
     ensures value { written.new ≡ packing_value (packing_eights words.now (length out.old)) }
@@ -24,8 +23,7 @@ pub extern "C" fn galdwist_pack(words: &[u8], out: &mut [u8], written: &mut u64)
 }
 
 // Packed bytes, as words of eight bytes.
-#[unsafe(no_mangle)]
-pub extern "C" fn galdwist_unpack(bytes: &[u8], out: &mut [u8], written: &mut u64) -> u64
+pub fn galdwist_unpack(bytes: &[u8], out: &mut [u8], written: &mut u64) -> u64
     ensures number { result ≡ packing_number (unpacking_eights bytes.now (length out.old)) }
     ensures space { out.new ≡ unpack_eights_into bytes.now out.old }
     ensures value { written.new ≡ packing_value (unpacking_eights bytes.now (length out.old)) }
@@ -36,8 +34,7 @@ pub extern "C" fn galdwist_unpack(bytes: &[u8], out: &mut [u8], written: &mut u6
 }
 
 // The library check: the row of the first fault, and its word; 0 and 0 where the image is a library.
-#[unsafe(no_mangle)]
-pub extern "C" fn galdwist_check(image: &[u64], place: &mut u64) -> u64
+pub fn galdwist_check(image: &[u64], place: &mut u64) -> u64
     ensures number { result ≡ checked_number (checked (check image.now)) }
     ensures value { place.new ≡ checked_place (checked (check image.now)) }
 {
@@ -47,13 +44,7 @@ pub extern "C" fn galdwist_check(image: &[u64], place: &mut u64) -> u64
 }
 
 // A correction run: the old library and the stream, the new library into the space; its words, or the line at fault.
-#[unsafe(no_mangle)]
-pub extern "C" fn galdwist_run(
-    old: &[u64],
-    stream: &[u8],
-    space: &mut [u64],
-    value: &mut u64,
-) -> u64
+pub fn galdwist_run(old: &[u64], stream: &[u8], space: &mut [u64], value: &mut u64) -> u64
     ensures number { result ≡ ran_number (ran (running old.now stream.now (length space.old))) }
     ensures space { space.new ≡ run_into (running old.now stream.now (length space.old)) space.old }
     ensures value { value.new ≡ ran_value (ran (running old.now stream.now (length space.old))) }
@@ -64,13 +55,7 @@ pub extern "C" fn galdwist_run(
 }
 
 // The full compile file: lines and calls, or the card at fault, or the word of a library that is refused.
-#[unsafe(no_mangle)]
-pub extern "C" fn galdwist_compile(
-    image: &[u64],
-    out: &mut [u8],
-    first: &mut u64,
-    second: &mut u64,
-) -> u64
+pub fn galdwist_compile(image: &[u64], out: &mut [u8], first: &mut u64, second: &mut u64) -> u64
     ensures number { result ≡ compiled_number (compiled (compiling image.now (length out.old))) }
     ensures space { out.new ≡ compile_into (compiling image.now (length out.old)) out.old }
     ensures first { first.new ≡ compiled_first (compiled (compiling image.now (length out.old))) }
@@ -83,8 +68,7 @@ pub extern "C" fn galdwist_compile(
 }
 
 // The first library followed by the second, into the space: its words, or the place of the fault; and which library is at fault.
-#[unsafe(no_mangle)]
-pub extern "C" fn galdwist_merge(
+pub fn galdwist_merge(
     first: &[u64],
     second: &[u64],
     space: &mut [u64],
@@ -103,8 +87,7 @@ pub extern "C" fn galdwist_merge(
 }
 
 // The fresh library: the words written, or 0 where it is longer than the space.
-#[unsafe(no_mangle)]
-pub extern "C" fn galdwist_fresh(space: &mut [u64], value: &mut u64) -> u64
+pub fn galdwist_fresh(space: &mut [u64], value: &mut u64) -> u64
     ensures number { result ≡ begun_number (freshing (length space.old)) }
     ensures space { space.new ≡ fresh_into space.old }
     ensures value { value.new ≡ begun_value (freshing (length space.old)) }
@@ -115,8 +98,7 @@ pub extern "C" fn galdwist_fresh(space: &mut [u64], value: &mut u64) -> u64
 }
 
 // The directory, a row of 11 bytes for each entry: the count of entries, or the place of the fault, or 0.
-#[unsafe(no_mangle)]
-pub extern "C" fn galdwist_directory(image: &[u64], rows: &mut [u8], value: &mut u64) -> u64
+pub fn galdwist_directory(image: &[u64], rows: &mut [u8], value: &mut u64) -> u64
     ensures number { result ≡ told_number (told (listing image.now (length rows.old))) }
     ensures space { rows.new ≡ show_into (listing image.now (length rows.old)) rows.old }
     ensures value { value.new ≡ told_value (told (listing image.now (length rows.old))) }
@@ -127,14 +109,7 @@ pub extern "C" fn galdwist_directory(image: &[u64], rows: &mut [u8], value: &mut
 }
 
 // The name of a card: the bytes written, or the place of the fault, or 0.
-#[unsafe(no_mangle)]
-pub extern "C" fn galdwist_card(
-    image: &[u64],
-    owner: u64,
-    seq: u64,
-    out: &mut [u8],
-    value: &mut u64,
-) -> u64
+pub fn galdwist_card(image: &[u64], owner: u64, seq: u64, out: &mut [u8], value: &mut u64) -> u64
     ensures number { result ≡ told_number (told (naming image.now owner seq (length out.old))) }
     ensures space { out.new ≡ show_into (naming image.now owner seq (length out.old)) out.old }
     ensures value { value.new ≡ told_value (told (naming image.now owner seq (length out.old))) }

@@ -3,16 +3,16 @@ use Prim.Native.Nat.{ℕ}
 use mathlib.Core.Path.{◌≡◌, refl, ap, ◌∙◌}
 use mathlib.Core.Bool.{Bool, true, false, ◌&&◌, beq}
 use mathlib.Core.List.{List, [], ◌∷◌, ◌++◌, map, append-nil}
-use mathlib.Core.Option.{none}
+use mathlib.Core.Option.{Option, none, some}
 use lib.Dec.{T, eqb, eqb_refl}
-use Rattle.words.specs.Base.{same}
+use Rattle.words.specs.Base.{if◌then◌else◌, same}
 use Rattle.words.proofs.TestParts.{T-true, and_both, same_refl}
 use Rattle.library.specs.Each.{Each}
 use Rattle.library.specs.Library.{Card, Deck, Library, deck_card, history, name_at, entry_of, deck_names}
 use Rattle.library.specs.Yanks.{active}
 use Rattle.library.specs.Image.{byte_bits}
 use Rattle.library.specs.Sound.{is_entry, names_lower_sets, BeginsNoDeck, SoundDeck, Sound}
-use Rattle.library.specs.Check.{row7, Parted, part_at, parted_by, row8, row10, ok_bits, row9_from}
+use Rattle.library.specs.Check.{Stored, is_deck_line, is_deck_card, row7, Parted, part_at, parted_by, row8, row10, ok_bits, row9_from}
 use Rattle.library.proofs.EachTest.{all-each}
 use Rattle.library.proofs.EntryNames.{entry-name}
 use Rattle.library.proofs.CardRows.{once-row10}
@@ -92,10 +92,18 @@ module _ (l : Library) (s : Sound l) (yk : ℕ → ℕ → Bool) where
       let r : List ℕ = map (byte_bits (yk deck)) (history c) in
       T-true (beq a a && same r r) (and_both (beq a a) (same r r) (beq-refl a) (same_refl r))
 
+  -- a card that is no deck's is looked at under the deck that it stands in
+  row9-same : (deck : ℕ) (t : Stored) (later : List Stored) → is_deck_card t ≡ false → ok_bits (yk deck) t ≡ true → row9_from yk deck later ≡ none → row9_from yk deck (t ∷ later) ≡ none
+  row9-same deck t later plain fits k =
+      let at : Bool → Option ℕ = λ b. if ok_bits (yk (if b then t.card.owner else deck)) t then row9_from yk (if b then t.card.owner else deck) later else some t.place in
+      ap at plain ∙ ap (λ (b : Bool). if b then row9_from yk deck later else some t.place) fits ∙ k
+
   row9-run : (deck : ℕ) (cs : List Card) → Each BeginsNoDeck cs → (rest : List Dealt) → ((m : ℕ) → row9_from yk deck (stored_from yk m rest) ≡ none)
       → (n : ℕ) → row9_from yk deck (stored_from yk n (dealt_to deck cs ++ rest)) ≡ none
   row9-run deck [] h rest k n = k n
-  row9-run deck (c ∷ cs) h rest k n = rw (h.0, bits-stored deck n c) (row9-run deck cs h.1 rest k (past (yk deck) n c))
+  row9-run deck (c ∷ cs) h rest k n =
+      row9-same deck (stored_at (yk deck) n c) (stored_from yk (past (yk deck) n c) (dealt_to deck cs ++ rest)) (ap is_deck_line h.0) (bits-stored deck n c)
+      (row9-run deck cs h.1 rest k (past (yk deck) n c))
 
   row9-decks : (ds : List Deck) → Each (SoundDeck directory) ds → (deck n : ℕ) → row9_from yk deck (stored_from yk n (dealt_decks ds)) ≡ none
   row9-decks [] h deck n = refl

@@ -9,12 +9,6 @@ use Rattle.library_raise.proofs.CardRaised.{card-one, card-many, long-one, long-
 use borrow.Author.Rules.{rules}
 use Rattle.library_raise.proofs.raise_card.Goals as goal
 
-pub overflow_mul-w : goal.overflow_mul-w
-overflow_mul-w c = omega (arith, c.type_inv.w c.args.at)
-
-pub overflow_add-w : goal.overflow_add-w
-overflow_add-w c = omega (arith, c.type_inv.w c.args.at)
-
 pub returns-then-x-ge-LAST : goal.returns-then-x-ge-LAST
 returns-then-x-ge-LAST c =
     let a = c.args in

@@ -8,4 +8,4 @@ use Rattle.merge_names.proofs.shared_name.Goals as goal
 pub shared_by-requires : goal.shared_by-requires
 shared_by-requires c =
     let d = c.args.first.now in
-    subst (Knows d) (sym c.type_inv.ways.ensures) (planted-entry d)
+    subst (Knows d) (sym c.plant.ensures) (planted-entry d)

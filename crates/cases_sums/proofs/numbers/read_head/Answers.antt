@@ -1,5 +1,4 @@
 -- Each field is what its call ensures.
-use borrow.Author.Rules.{rules}
 use Rattle.cases_sums.proofs.numbers.read_head.Goals as goal
 
 pub returns : goal.returns

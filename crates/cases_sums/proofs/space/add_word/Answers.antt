@@ -2,7 +2,6 @@
 use mathlib.Core.Path.{◌∙◌, ap}
 use Prim.Native.Nat.{ℕ, ◌/◌}
 use Rattle.cases_sums.specs.Space.{mixed}
-use borrow.Author.Rules.{rules}
 use Rattle.cases_sums.proofs.space.add_word.Goals as goal
 
 pub returns : goal.returns

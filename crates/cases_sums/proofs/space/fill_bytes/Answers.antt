@@ -1,8 +1,8 @@
-use Prim.Native.Nat.{◌-◌, ◌<◌, ◌≤◌}
+use Prim.Native.Nat.{◌<◌}
 use mathlib.Core.Path.{◌≡◌, ◌∙◌}
 use native.Mathlib.Omega.{arith}
 use lib.ListN.{length}
-use Rattle.cases_sums.proofs.FilledSpace.{filled, filled_none, filled_more, filled-all}
+use Rattle.cases_sums.proofs.FilledSpace.{filled_none, filled_more, filled-all}
 use borrow.Author.Rules.{rules}
 use Rattle.cases_sums.proofs.space.fill_bytes.Goals as goal
 

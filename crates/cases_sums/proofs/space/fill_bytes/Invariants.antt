@@ -1,10 +1,8 @@
 -- The first i bytes are filled and the others as they were; at the end i is the length.
-use Prim.Native.Nat.{◌-◌, ◌<◌, ◌≤◌}
-use mathlib.Core.Path.{◌≡◌, ◌∙◌}
-use native.Mathlib.Omega.{arith}
+use Prim.Native.Nat.{◌-◌, ◌≤◌}
+use mathlib.Core.Path.{◌≡◌}
 use lib.ListN.{length}
-use Rattle.cases_sums.proofs.FilledSpace.{filled, filled_none, filled_more, filled-all}
-use borrow.Author.Rules.{rules}
+use Rattle.cases_sums.proofs.FilledSpace.{filled}
 use Rattle.cases_sums.proofs.space.fill_bytes.Given as goal
 
 abbrev pub invariant-loop-i : goal.invariant-loop-i

@@ -1,8 +1,7 @@
-use Prim.Native.Nat.{◌-◌, ◌<◌, ◌≤◌}
+use Prim.Native.Nat.{◌<◌}
 use mathlib.Core.Path.{◌≡◌, sym, ◌∙◌}
 use native.Mathlib.Omega.{arith}
-use lib.ListN.{length, drop}
-use Rattle.cases_sums.specs.Space.{sum_from, sum_of}
+use lib.ListN.{length}
 use Rattle.cases_sums.proofs.SumRest.{more_bytes, no_bytes}
 use borrow.Author.Rules.{rules}
 use Rattle.cases_sums.proofs.space.sum_bytes.Goals as goal

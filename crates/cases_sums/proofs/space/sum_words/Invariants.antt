@@ -1,11 +1,8 @@
 -- What is still to be summed, from the sum so far, gives the sum of all; at the end nothing is.
 use Prim.Native.Nat.{◌-◌, ◌<◌, ◌≤◌}
-use mathlib.Core.Path.{◌≡◌, sym, ◌∙◌}
-use native.Mathlib.Omega.{arith}
+use mathlib.Core.Path.{◌≡◌}
 use lib.ListN.{length, drop}
 use Rattle.cases_sums.specs.Space.{sum_from, sum_of, halves}
-use Rattle.cases_sums.proofs.SumRest.{more-words, no_words}
-use borrow.Author.Rules.{rules}
 use Rattle.cases_sums.proofs.space.sum_words.Given as goal
 
 abbrev pub invariant-loop-i : goal.invariant-loop-i

@@ -19,7 +19,7 @@ loop-at-init c =
     still-start a.directory.now ws a.from a.end (first_failing (ok_yank a.directory.now a.list.now))
 
 pub yank_ok-requires : goal.yank_ok-requires
-yank_ok-requires c = record { knows = (c.requires.1).0; knows_2 = (c.requires.1).1 }
+yank_ok-requires c = record { knows = c.requires.knows; knows_2 = c.requires.knows_2 }
 
 pub returns-then-not-yank_ok : goal.returns-then-not-yank_ok
 returns-then-not-yank_ok c =
@@ -35,7 +35,7 @@ returns-then-not-yank_ok c =
     (λ s w t. failing-here ok s t l.at (shown-yank D a.list.now ws l.at s w r sees c.yank_ok.result c.yank_ok.ensures ∙ c.if-not-yank_ok.true) (shown-place D ws l.at s w r sees)) ss h))
 
 pub loop-at-smaller : goal.loop-at-smaller
-loop-at-smaller c = omega (arith, c.see-c.ensures.text_le_next.1.1 (omega (arith, c.loop-at-test.true, (c.requires.end_in_bounds, (c.requires.knows, c.requires.knows_2)))), c.see-c.ensures.text_le_next.0)
+loop-at-smaller c = omega (arith, c.see-c.ensures.text_le_next.1.1 (omega (arith, c.loop-at-test.true, c.requires.end_in_bounds)), c.see-c.ensures.text_le_next.0)
 
 pub loop-at-preserved : goal.loop-at-preserved
 loop-at-preserved c =

@@ -7,10 +7,10 @@ use borrow.Author.Rules.{rules}
 use Rattle.library_check.proofs.yanks.yank_ok.Goals as goal
 
 pub slice_bounds-line-end : goal.slice_bounds-line-end
-slice_bounds-line-end c = c.type_inv.line.ensures.0
+slice_bounds-line-end c = c.line_of-n.ensures.upper_bound
 
 pub slice_bounds-yank_line_ok-end : goal.slice_bounds-yank_line_ok-end
-slice_bounds-yank_line_ok-end c = sym (length-take-le c.type_inv.line.result c.type_inv.line.new.1.1.1.0 c.type_inv.line.ensures.0)
+slice_bounds-yank_line_ok-end c = sym (length-take-le c.line_of-n.result c.line_of-n.new.line c.line_of-n.ensures.upper_bound)
 
 pub yank_line_ok-requires : goal.yank_line_ok-requires
 yank_line_ok-requires c = record { knows = c.requires.knows; knows_2 = c.requires.knows_2 }
@@ -20,5 +20,5 @@ returns c =
     let a = c.args in
     let D = c.args.directory.now in
     let L = c.args.list.now in
-    let e = c.type_inv.line.ensures in
-    yank-same D L a.c.owner _ c.yank_line_ok.result _ c.yank_line_ok.ensures (line_taken _ _ _ _ _ _ e.1.0 e.1.1)
+    let e = c.line_of-n.ensures in
+    yank-same D L a.c.owner _ c.yank_line_ok.result _ c.yank_line_ok.ensures (line_taken _ _ _ _ _ _ e.value e.line_after)

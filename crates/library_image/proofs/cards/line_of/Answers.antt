@@ -5,10 +5,10 @@ use borrow.Author.Rules.{rules}
 use Rattle.library_image.proofs.cards.line_of.Goals as goal
 
 pub returns-then-image-to : goal.returns-then-image-to
-returns-then-image-to c = let a = c.args in record { upper_bound = (line-unread a.image.now _ _ a.from a.to (search rules) refl).0; value = (line-unread a.image.now _ _ a.from a.to (search rules) refl).1.0; line_after = (line-unread a.image.now _ _ a.from a.to (search rules) refl).1.1 }
+returns-then-image-to c = let a = c.args in record { upper_bound = (line-unread a.image.now a.line.now a.line.now a.from a.to (search rules) refl).0; value = (line-unread a.image.now a.line.now a.line.now a.from a.to (search rules) refl).1.0; line_after = (line-unread a.image.now a.line.now a.line.now a.from a.to (search rules) refl).1.1 }
 
 pub returns-then-to-from : goal.returns-then-to-from
-returns-then-to-from c = let a = c.args in record { upper_bound = (line-short a.image.now _ _ a.from a.to (search rules) (search rules) refl).0; value = (line-short a.image.now _ _ a.from a.to (search rules) (search rules) refl).1.0; line_after = (line-short a.image.now _ _ a.from a.to (search rules) (search rules) refl).1.1 }
+returns-then-to-from c = let a = c.args in record { upper_bound = (line-short a.image.now a.line.now a.line.now a.from a.to (search rules) (search rules) refl).0; value = (line-short a.image.now a.line.now a.line.now a.from a.to (search rules) (search rules) refl).1.0; line_after = (line-short a.image.now a.line.now a.line.now a.from a.to (search rules) (search rules) refl).1.1 }
 
 pub returns-in-Columns : goal.returns-in-Columns
 returns-in-Columns c =

@@ -15,10 +15,10 @@ pub returns-then-not-star_at : goal.returns-then-not-star_at
 returns-then-not-star_at c = let a = c.args in deck-starless a.image.now a.from a.to (sym c.star_at.ensures ∙ c.if-not-star_at.true)
 
 pub slice_bounds-line-end : goal.slice_bounds-line-end
-slice_bounds-line-end c = c.type_inv.line.ensures.0
+slice_bounds-line-end c = c.line_of-n.ensures.upper_bound
 
 pub slice_bounds-deck_line-end : goal.slice_bounds-deck_line-end
-slice_bounds-deck_line-end c = sym (length-take-le c.type_inv.line.result c.type_inv.line.new.1.1.1.0 c.type_inv.line.ensures.0)
+slice_bounds-deck_line-end c = sym (length-take-le c.line_of-n.result c.line_of-n.new.line c.line_of-n.ensures.upper_bound)
 
 pub returns : goal.returns
-returns c = let e = c.type_inv.line.ensures in c.deck_line.ensures ∙ ap (λ (l : List ℕ). deck_line_of (deck_line l)) (line_taken _ _ _ _ _ _ e.1.0 e.1.1)
+returns c = let e = c.line_of-n.ensures in c.deck_line.ensures ∙ ap (λ (l : List ℕ). deck_line_of (deck_line l)) (line_taken _ _ _ _ _ _ e.value e.line_after)

@@ -11,7 +11,10 @@ pub loop-n-init : goal.loop-n-init
 loop-n-init c = let a = c.args in (c.least-n.ensures.upper_bound.1, (refl, ap (λ (k : ℕ). from_top a.directory.now a.cards.now k a.flags.now) c.least-n.ensures.value))
 
 pub act_owner-requires : goal.act_owner-requires
-act_owner-requires c = let l = c.loop-n in record { cards_len_bound = (((c.requires.cards_len_bound.0, (c.requires.cards_len_bound.1.0, omega (arith, c.requires.cards_len_bound.1.1, l.invariant.0))), c.requires.1)).0; linked = (((c.requires.cards_len_bound.0, (c.requires.cards_len_bound.1.0, omega (arith, c.requires.cards_len_bound.1.1, l.invariant.0))), c.requires.1)).1.0; knows = (((c.requires.cards_len_bound.0, (c.requires.cards_len_bound.1.0, omega (arith, c.requires.cards_len_bound.1.1, l.invariant.0))), c.requires.1)).1.1 }
+act_owner-requires c =
+    let l = c.loop-n in
+    let bound = c.requires.cards_len_bound in
+    record { cards_len_bound = (bound.0, (bound.1.0, omega (arith, bound.1.1, l.invariant.0))); linked = c.requires.linked; knows = c.requires.knows }
 
 pub loop-n-smaller : goal.loop-n-smaller
 loop-n-smaller c = omega (arith, c.loop-n-test.true)

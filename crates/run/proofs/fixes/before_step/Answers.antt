@@ -10,7 +10,7 @@ use Rattle.run.proofs.Correcting.{before-off, before-missing, before-yanks, befo
 use Rattle.run.proofs.fixes.before_step.Goals as goal
 
 pub returns-then-not-d : goal.returns-then-not-d
-returns-then-not-d c = let a = c.args in record { sane_after = tt; before_steps = before-off a.w.now a.dir.now a.decks.now a.d a.r _ (not_taken a.d.set c.if-not-d.true) }
+returns-then-not-d c = let a = c.args in record { sane_after = tt; before_steps = before-off a.w.now a.dir.now a.decks.now a.d a.r a.w.now (not_taken a.d.set c.if-not-d.true) }
 
 pub seek_card-f-requires : goal.seek_card-f-requires
 seek_card-f-requires c = let p = c.requires in (p.0, p.1.0)
@@ -21,7 +21,7 @@ shape_of-w-then-d-f c = refl
 pub returns-then-d-f : goal.returns-then-d-f
 returns-then-d-f c =
     let a = c.args in
-    let f = c.seek_card-f in record { sane_after = tt; before_steps = before-missing a.w.now a.dir.now a.decks.now a.d a.r _ (not_left a.d.set c.if-not-d.false) f.result f.ensures.seeks_card c.if-d-f.true }
+    let f = c.seek_card-f in record { sane_after = tt; before_steps = before-missing a.w.now a.dir.now a.decks.now a.d a.r a.w.now (not_left a.d.set c.if-not-d.false) f.result f.ensures.seeks_card c.if-d-f.true }
 
 pub shape_of-w-then-f-d : goal.shape_of-w-then-f-d
 shape_of-w-then-f-d c = refl
@@ -29,7 +29,7 @@ shape_of-w-then-f-d c = refl
 pub returns-then-f-d : goal.returns-then-f-d
 returns-then-f-d c =
     let a = c.args in
-    let f = c.seek_card-f in record { sane_after = tt; before_steps = before-yanks a.w.now a.dir.now a.decks.now a.d a.r _ (not_left a.d.set c.if-not-d.false) f.result f.ensures.seeks_card c.if-d-f.false c.if-f-d.true }
+    let f = c.seek_card-f in record { sane_after = tt; before_steps = before-yanks a.w.now a.dir.now a.decks.now a.d a.r a.w.now (not_left a.d.set c.if-not-d.false) f.result f.ensures.seeks_card c.if-d-f.false c.if-f-d.true }
 
 pub is_title-requires : goal.is_title-requires
 is_title-requires c = tt
@@ -40,7 +40,7 @@ shape_of-w-then-is_title c = refl
 pub returns-then-is_title : goal.returns-then-is_title
 returns-then-is_title c =
     let a = c.args in
-    let f = c.seek_card-f in record { sane_after = tt; before_steps = before-deck a.w.now a.dir.now a.decks.now a.d a.r _ (not_left a.d.set c.if-not-d.false) f.result f.ensures.seeks_card c.if-d-f.false (sym c.is_title.ensures ∙ c.if-is_title.true) }
+    let f = c.seek_card-f in record { sane_after = tt; before_steps = before-deck a.w.now a.dir.now a.decks.now a.d a.r a.w.now (not_left a.d.set c.if-not-d.false) f.result f.ensures.seeks_card c.if-d-f.false (sym c.is_title.ensures ∙ c.if-is_title.true) }
 
 pub open_ahead-h-requires : goal.open_ahead-h-requires
 open_ahead-h-requires c = let p = c.requires.0 in (p.ordered, room-place _ p.room)

@@ -11,7 +11,7 @@ use Rattle.run.proofs.Correcting.{insert-off, insert-missing, insert-yanks, inse
 use Rattle.run.proofs.fixes.insert_step.Goals as goal
 
 pub returns-then-not-d : goal.returns-then-not-d
-returns-then-not-d c = let a = c.args in record { sane_after = tt; insert_steps = insert-off a.w.now a.dir.now a.d a.r _ (not_taken a.d.set c.if-not-d.true) }
+returns-then-not-d c = let a = c.args in record { sane_after = tt; insert_steps = insert-off a.w.now a.dir.now a.d a.r a.w.now (not_taken a.d.set c.if-not-d.true) }
 
 pub seek_card-f-requires : goal.seek_card-f-requires
 seek_card-f-requires c = let p = c.requires in (p.0, p.1)
@@ -22,7 +22,7 @@ shape_of-w-then-d-f c = refl
 pub returns-then-d-f : goal.returns-then-d-f
 returns-then-d-f c =
     let a = c.args in
-    let f = c.seek_card-f in record { sane_after = tt; insert_steps = insert-missing a.w.now a.dir.now a.d a.r _ (not_left a.d.set c.if-not-d.false) f.result f.ensures.seeks_card c.if-d-f.true }
+    let f = c.seek_card-f in record { sane_after = tt; insert_steps = insert-missing a.w.now a.dir.now a.d a.r a.w.now (not_left a.d.set c.if-not-d.false) f.result f.ensures.seeks_card c.if-d-f.true }
 
 pub shape_of-w-then-f-d : goal.shape_of-w-then-f-d
 shape_of-w-then-f-d c = refl
@@ -30,7 +30,7 @@ shape_of-w-then-f-d c = refl
 pub returns-then-f-d : goal.returns-then-f-d
 returns-then-f-d c =
     let a = c.args in
-    let f = c.seek_card-f in record { sane_after = tt; insert_steps = insert-yanks a.w.now a.dir.now a.d a.r _ (not_left a.d.set c.if-not-d.false) f.result f.ensures.seeks_card c.if-d-f.false c.if-f-d.true }
+    let f = c.seek_card-f in record { sane_after = tt; insert_steps = insert-yanks a.w.now a.dir.now a.d a.r a.w.now (not_left a.d.set c.if-not-d.false) f.result f.ensures.seeks_card c.if-d-f.false c.if-f-d.true }
 
 pub open_after-h-requires : goal.open_after-h-requires
 open_after-h-requires c = let p = c.requires.0 in (p.ordered, room-place _ p.room)

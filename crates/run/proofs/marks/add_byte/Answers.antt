@@ -6,18 +6,12 @@ use Rattle.run.proofs.GapSteps.{last-second, last-third, last-full, add-one-word
 use borrow.Author.Rules.{rules}
 use Rattle.run.proofs.marks.add_byte.Goals as goal
 
-pub overflow_add-w : goal.overflow_add-w
-overflow_add-w c = omega (arith, c.type_inv.w (c.args.lo - 1))
-
 pub returns-then-l-eq0-2 : goal.returns-then-l-eq0-2
 returns-then-l-eq0-2 c =
     let a = c.args in
     let p = c.requires in
     add-one-word a.w.now a.lo a.hi a.byte p.0 p.1.0 p.1.1.0 _
     (last-second a.byte (get_or a.w.now (a.lo - 1) 0) c.if-l-eq0.true c.if-l-eq0-2.true)
-
-pub overflow_add-w-then-l-eq0 : goal.overflow_add-w-then-l-eq0
-overflow_add-w-then-l-eq0 c = omega (arith, c.type_inv.w (c.args.lo - 1))
 
 pub returns-then-l-eq0 : goal.returns-then-l-eq0
 returns-then-l-eq0 c =

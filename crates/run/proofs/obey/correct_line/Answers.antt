@@ -24,27 +24,27 @@ yank_step-requires c = let pre = c.requires in (pre.0, (pre.1.0, (pre.1.1.0, pre
 pub returns-in-Insert : goal.returns-in-Insert
 returns-in-Insert c =
     let a = c.args in
-    let p = c.insert_step in record { sane_after = p.ensures.sane_after; corrects_line = λ t e. insert-obeys a.w.now a.dir.now a.names.now a.decks.now a.flags.now a.d a.line.now p.result c.in-Insert.r p.last.0 (e ∙ c.in-Insert.is) p.ensures.insert_steps }
+    let p = c.insert_step in record { sane_after = p.ensures.sane_after; corrects_line = λ t e. insert-obeys a.w.now a.dir.now a.names.now a.decks.now a.flags.now a.d a.line.now p.result c.in-Insert.r p.new.w (e ∙ c.in-Insert.is) p.ensures.insert_steps }
 
 pub returns-in-Before : goal.returns-in-Before
 returns-in-Before c =
     let a = c.args in
-    let p = c.before_step in record { sane_after = p.ensures.sane_after; corrects_line = λ t e. before-obeys a.w.now a.dir.now a.names.now a.decks.now a.flags.now a.d a.line.now p.result c.in-Before.r p.last.0 (e ∙ c.in-Before.is) p.ensures.before_steps }
+    let p = c.before_step in record { sane_after = p.ensures.sane_after; corrects_line = λ t e. before-obeys a.w.now a.dir.now a.names.now a.decks.now a.flags.now a.d a.line.now p.result c.in-Before.r p.new.w (e ∙ c.in-Before.is) p.ensures.before_steps }
 
 pub returns-in-Delete : goal.returns-in-Delete
 returns-in-Delete c =
     let a = c.args in
-    let p = c.mark_step in record { sane_after = p.ensures.sane_after; corrects_line = λ t e. delete-obeys a.w.now a.dir.now a.names.now a.decks.now a.flags.now a.d a.line.now p.result c.in-Delete.a c.in-Delete.b p.last.0 p.last.1.1.1.0 (e ∙ c.in-Delete.is) p.ensures.mark_steps }
+    let p = c.mark_step in record { sane_after = p.ensures.sane_after; corrects_line = λ t e. delete-obeys a.w.now a.dir.now a.names.now a.decks.now a.flags.now a.d a.line.now p.result c.in-Delete.a c.in-Delete.b p.new.w p.new.flags (e ∙ c.in-Delete.is) p.ensures.mark_steps }
 
 pub returns-in-Restore : goal.returns-in-Restore
 returns-in-Restore c =
     let a = c.args in
-    let p = c.mark_step-in-Restore in record { sane_after = p.ensures.sane_after; corrects_line = λ t e. restore-obeys a.w.now a.dir.now a.names.now a.decks.now a.flags.now a.d a.line.now p.result c.in-Restore.a c.in-Restore.b p.last.0 p.last.1.1.1.0 (e ∙ c.in-Restore.is) p.ensures.mark_steps }
+    let p = c.mark_step-in-Restore in record { sane_after = p.ensures.sane_after; corrects_line = λ t e. restore-obeys a.w.now a.dir.now a.names.now a.decks.now a.flags.now a.d a.line.now p.result c.in-Restore.a c.in-Restore.b p.new.w p.new.flags (e ∙ c.in-Restore.is) p.ensures.mark_steps }
 
 pub returns-in-Yank : goal.returns-in-Yank
 returns-in-Yank c =
     let a = c.args in
-    let p = c.yank_step in record { sane_after = p.ensures.sane_after; corrects_line = λ t e. yank-obeys a.w.now a.dir.now a.names.now a.decks.now a.flags.now a.d a.line.now p.result p.last.0 p.last.1.1.1.0 (e ∙ c.in-Yank.is) p.ensures.yank_steps }
+    let p = c.yank_step in record { sane_after = p.ensures.sane_after; corrects_line = λ t e. yank-obeys a.w.now a.dir.now a.names.now a.decks.now a.flags.now a.d a.line.now p.result p.new.w p.new.flags (e ∙ c.in-Yank.is) p.ensures.yank_steps }
 
 pub returns-in-Outside : goal.returns-in-Outside
 returns-in-Outside c =

@@ -8,6 +8,7 @@ use Rattle.run.specs.Obeyed.{asks_deck}
 use Rattle.run.specs.Streamed.{in_arrays}
 use Rattle.run.proofs.Obeying.{skipped-obeys, text-obeys, ident-obeys, deck-obeys, others-correct}
 use borrow.Author.Rules.{rules}
+use borrow.Enum.Refused.{opened}
 use Rattle.run.proofs.obey.obey_line.Goals as goal
 
 pub text_step-requires : goal.text_step-requires
@@ -37,7 +38,7 @@ returns-in-Ident c =
 pub returns-in_default : goal.returns-in_default
 returns-in_default c =
     let p = c.correct_line in
-    let r = c.directive-asked in record { sane_after = p.ensures.sane_after; obeys_line = p.ensures.corrects_line (others-correct r.result c.in_default.in_default-own.keys6) (sym r.ensures) }
+    let r = c.directive-asked in record { sane_after = p.ensures.sane_after; obeys_line = p.ensures.corrects_line (others-correct r.result (opened c.in_default.in_default-own.keys6)) (sym r.ensures) }
 
 pub returns-in-Deck : goal.returns-in-Deck
 returns-in-Deck c =
@@ -45,4 +46,4 @@ returns-in-Deck c =
     let p = c.deck_step in
     let r = c.directive-asked in
     let asked : (common : Bool) × (directive a.line.now ≡ asks_deck common c.in-Deck.word) =
-    ⊎_elim (λ x. (false, sym r.ensures ∙ x.1.given.1 ∙ ap (asks_deck false) (sym x.3))) (λ x. (true, sym r.ensures ∙ x.1.given.1 ∙ ap (asks_deck true) (sym x.3))) c.in-Deck.match-asked-branch in record { sane_after = p.ensures.sane_after; obeys_line = deck-obeys a.w.now a.dir.now a.names.now a.decks.now a.flags.now a.d a.line.now p.result asked.0 c.in-Deck.word p.new.w p.new.dir p.new.names p.new.decks asked.1 p.ensures.deck_steps }
+    ⊎_elim (λ x. (false, sym r.ensures ∙ x)) (λ x. (true, sym r.ensures ∙ x)) c.in-Deck.is in record { sane_after = p.ensures.sane_after; obeys_line = deck-obeys a.w.now a.dir.now a.names.now a.decks.now a.flags.now a.d a.line.now p.result asked.0 c.in-Deck.word p.new.w p.new.dir p.new.names p.new.decks asked.1 p.ensures.deck_steps }

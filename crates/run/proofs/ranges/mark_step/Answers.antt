@@ -6,7 +6,7 @@ use Rattle.run.proofs.RangeAsking.{mark-off, mark-no-first, mark-no-last, mark-b
 use Rattle.run.proofs.ranges.mark_step.Goals as goal
 
 pub returns-then-not-d : goal.returns-then-not-d
-returns-then-not-d c = let a = c.args in record { sane_after = tt; mark_steps = mark-off a.w.now a.dir.now a.decks.now a.flags.now a.d a.was a.a a.b _ _ (not_taken a.d.set c.if-not-d.taken) }
+returns-then-not-d c = let a = c.args in record { sane_after = tt; mark_steps = mark-off a.w.now a.dir.now a.decks.now a.flags.now a.d a.was a.a a.b a.w.now a.flags.now (not_taken a.d.set c.if-not-d.true) }
 
 pub seek_card-f-requires : goal.seek_card-f-requires
 seek_card-f-requires c = let p = c.requires in (p.0, p.1.0)
@@ -17,7 +17,7 @@ shape_of-w-then-d-f c = refl
 pub returns-then-d-f : goal.returns-then-d-f
 returns-then-d-f c =
     let a = c.args in
-    let f = c.seek_card-f in record { sane_after = tt; mark_steps = mark-no-first a.w.now a.dir.now a.decks.now a.flags.now a.d a.was a.a a.b _ _ (not_left a.d.set c.if-not-d.left) f.result f.ensures.seeks_card c.if-d-f.taken }
+    let f = c.seek_card-f in record { sane_after = tt; mark_steps = mark-no-first a.w.now a.dir.now a.decks.now a.flags.now a.d a.was a.a a.b a.w.now a.flags.now (not_left a.d.set c.if-not-d.false) f.result f.ensures.seeks_card c.if-d-f.true }
 
 pub shape_of-w-then-d-l : goal.shape_of-w-then-d-l
 shape_of-w-then-d-l c = refl
@@ -26,7 +26,7 @@ pub returns-then-d-l : goal.returns-then-d-l
 returns-then-d-l c =
     let a = c.args in
     let f = c.seek_card-f in
-    let k = c.seek_last-l in record { sane_after = tt; mark_steps = mark-no-last a.w.now a.dir.now a.decks.now a.flags.now a.d a.was a.a a.b _ _ (not_left a.d.set c.if-not-d.left) f.result f.ensures.seeks_card k.result k.ensures.seeks_card_2 c.if-d-l.taken }
+    let k = c.seek_last-l in record { sane_after = tt; mark_steps = mark-no-last a.w.now a.dir.now a.decks.now a.flags.now a.d a.was a.a a.b a.w.now a.flags.now (not_left a.d.set c.if-not-d.false) f.result f.ensures.seeks_card k.result k.ensures.seeks_card_2 c.if-d-l.true }
 
 pub shape_of-w-then-l-f : goal.shape_of-w-then-l-f
 shape_of-w-then-l-f c = refl
@@ -35,22 +35,22 @@ pub returns-then-l-f : goal.returns-then-l-f
 returns-then-l-f c =
     let a = c.args in
     let f = c.seek_card-f in
-    let k = c.seek_last-l in record { sane_after = tt; mark_steps = mark-backwards a.w.now a.dir.now a.decks.now a.flags.now a.d a.was a.a a.b _ _ (not_left a.d.set c.if-not-d.left) f.result f.ensures.seeks_card k.result k.ensures.seeks_card_2 c.if-d-f.left c.if-d-l.left c.if-l-f.taken }
+    let k = c.seek_last-l in record { sane_after = tt; mark_steps = mark-backwards a.w.now a.dir.now a.decks.now a.flags.now a.d a.was a.a a.b a.w.now a.flags.now (not_left a.d.set c.if-not-d.false) f.result f.ensures.seeks_card k.result k.ensures.seeks_card_2 c.if-d-f.false c.if-d-l.false c.if-l-f.true }
 
 pub mark_found-requires : goal.mark_found-requires
 mark_found-requires c =
     let pre = c.requires in
-    (pre.0, (pre.1.0, (pre.1.1.1.0, (pre.1.1.1.1, (c.if-l-f.left, c.if-d-l.left)))))
+    (pre.0, (pre.1.0, (pre.1.1.1.0, (pre.1.1.1.1, (c.if-l-f.false, c.if-d-l.false)))))
 
 pub shape_of-w : goal.shape_of-w
-shape_of-w c = c.mark_found.kept.w
+shape_of-w c = c.mark_found.auto.w
 
 pub shape_of-flags : goal.shape_of-flags
-shape_of-flags c = c.mark_found.kept.flags
+shape_of-flags c = c.mark_found.auto.flags
 
 pub returns : goal.returns
 returns c =
     let a = c.args in
     let f = c.seek_card-f in
     let k = c.seek_last-l in
-    let m = c.mark_found in record { sane_after = m.ensures.sane_after; mark_steps = mark_on a.w.now a.dir.now a.decks.now a.flags.now a.d a.was a.a a.b _ _ (not_left a.d.set c.if-not-d.left) f.result f.ensures.seeks_card k.result k.ensures.seeks_card_2 m.result m.ensures.marks_found c.if-d-f.left c.if-d-l.left c.if-l-f.left }
+    let m = c.mark_found in record { sane_after = m.ensures.sane_after; mark_steps = mark_on a.w.now a.dir.now a.decks.now a.flags.now a.d a.was a.a a.b _ _ (not_left a.d.set c.if-not-d.false) f.result f.ensures.seeks_card k.result k.ensures.seeks_card_2 m.result m.ensures.marks_found c.if-d-f.false c.if-d-l.false c.if-l-f.false }

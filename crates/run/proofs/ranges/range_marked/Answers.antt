@@ -13,7 +13,7 @@ yank_marked-requires c = let pre = c.requires in (pre.0, (pre.1.0, (pre.1.1.0, p
 
 pub returns-then-first-d : goal.returns-then-first-d
 returns-then-first-d c =
-    let y = c.yank_marked in record { sane_after = y.ensures.sane_after; goes_on = record { yanks = λ _. y.ensures.yank_marks; decks = λ le. absurd (omega (arith, c.if-first-d.taken, le)) } }
+    let y = c.yank_marked in record { sane_after = y.ensures.sane_after; goes_on = record { yanks = λ _. y.ensures.yank_marks; decks = λ le. absurd (omega (arith, c.if-first-d.true, le)) } }
 
 pub limited-requires : goal.limited-requires
 limited-requires c =
@@ -25,4 +25,4 @@ pub returns : goal.returns
 returns c =
     let a = c.args in
     let pre = c.requires in
-    let e = c.limited.ensures ∙ ap fitted c.moved.ensures in record { sane_after = subst (SaneAfter a.w.now) (sym e) (fitted-sane a.w.now (moved_desk a.d a.k (a.last + 1)) pre.1.0.1 pre.0.room pre.0.next pre.0.yanks (omega (arith, pre.1.1.1.1))); goes_on = record { yanks = λ lt. absurd (omega (arith, c.if-first-d.left, lt)); decks = λ _. (refl, (refl, e)) } }
+    let e = c.limited.ensures ∙ ap fitted c.moved.ensures in record { sane_after = subst (SaneAfter a.w.now) (sym e) (fitted-sane a.w.now (moved_desk a.d a.k (a.last + 1)) pre.1.0.1 pre.0.room pre.0.next pre.0.yanks (omega (arith, pre.1.1.1.1))); goes_on = record { yanks = λ lt. absurd (omega (arith, c.if-first-d.false, lt)); decks = λ _. (refl, (refl, e)) } }

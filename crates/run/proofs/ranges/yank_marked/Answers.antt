@@ -11,9 +11,9 @@ resettle-requires c =
     let pre = c.requires in
     let o = c.open_at-m in
     let q = sym c.limited-r.ensures ∙ c.in-Went.is in
-    let same : length o.last.0 ≡ length a.w.now = c.open_at-m.kept.w in
+    let same : length o.new.w ≡ length a.w.now = c.open_at-m.auto.w in
     let e = c.in-Went.e in
-    (yank-sane a.w.now o.last.0 a.d o.result e pre.0 same o.ensures.ordered q, (yank-lead a.d o.result e q, (pre.1.1.0, search rules)))
+    (yank-sane a.w.now o.new.w a.d o.result e pre.0 same o.ensures.ordered q, (yank-lead a.d o.result e q, (pre.1.1.0, search rules)))
 
 pub returns-in-Went : goal.returns-in-Went
 returns-in-Went c =
@@ -24,8 +24,8 @@ returns-in-Went c =
     let z = c.resettle in
     let q = sym c.limited-r.ensures ∙ c.in-Went.is in
     let e = c.in-Went.e in
-    let half : length o.last.0 ≡ length a.w.now = c.open_at-m.kept.w in
-    let same : length z.last.0 ≡ length a.w.now = z.kept.w ∙ half in record { sane_after = yank-sane a.w.now z.last.0 a.d o.result e pre.0 same o.ensures.ordered q; yank_marks = yank-went a.w.now a.dir.now a.d a.h pre.0.room n.result n.ensures.lead_after o.last.0 o.result o.ensures.opens_at half o.ensures.ordered e q _ _ same z.ensures }
+    let half : length o.new.w ≡ length a.w.now = c.open_at-m.auto.w in
+    let same : length z.new.w ≡ length a.w.now = z.auto.w ∙ half in record { sane_after = yank-sane a.w.now z.new.w a.d o.result e pre.0 same o.ensures.ordered q; yank_marks = yank-went a.w.now a.dir.now a.d a.h pre.0.room n.result n.ensures.lead_after o.new.w o.result o.ensures.opens_at half o.ensures.ordered e q _ _ same z.ensures }
 
 pub returns-in-Refused : goal.returns-in-Refused
 returns-in-Refused c =
@@ -34,4 +34,4 @@ returns-in-Refused c =
     let n = c.lead_after-n in
     let o = c.open_at-m in
     let q = sym c.limited-r.ensures ∙ c.in-Refused.is in
-    let same : length o.last.0 ≡ length a.w.now = c.open_at-m.kept.w in record { sane_after = tt; yank_marks = yank-refused a.w.now a.dir.now a.d a.h pre.0.room n.result n.ensures.lead_after o.last.0 o.result o.ensures.opens_at same o.ensures.ordered _ q _ }
+    let same : length o.new.w ≡ length a.w.now = c.open_at-m.auto.w in record { sane_after = tt; yank_marks = yank-refused a.w.now a.dir.now a.d a.h pre.0.room n.result n.ensures.lead_after o.new.w o.result o.ensures.opens_at same o.ensures.ordered _ q a.flags.now }

@@ -5,12 +5,12 @@ use Rattle.run.specs.declared.seek.Place.{Place}
 use Rattle.run.proofs.Walking.{Looks, look-start, look-here, look-next, look-end, look-find}
 use Rattle.run.proofs.Locating.{locate-high, locate-below, locate-above}
 use Rattle.run.proofs.Opening.{locates}
-use borrow.Author.Rules.{zero≤}
+use native.Mathlib.Omega.{arith}
 use Rattle.run.proofs.Sums.{same_place, order-on, below-le, near, near_on, step-on, end-nearer, below_all, low_fits, low_near, one-fits, one-near, two-fit, two-near, three-fit, three-near, last_fits, last-near}
 use Rattle.run.proofs.seek.locate.Goals as goal
 
 pub loop-b-init : goal.loop-b-init
-loop-b-init c = let p = c.requires in (zero≤, (zero≤, (zero≤, (near _ _ p.0.1 p.1.0, (look-start, look-start)))))
+loop-b-init c = let p = c.requires in (omega arith, (omega arith, (omega arith, (near _ _ p.0.1 p.1.0, (look-start, look-start)))))
 
 pub find-r-requires : goal.find-r-requires
 find-r-requires c = (c.loop-b.invariant.1.1.1.0, (same_place _, c.requires.1.0))

@@ -6,7 +6,6 @@ use Rattle.run.specs.declared.seek.Place.{Place}
 use Rattle.run.proofs.Walking.{Looks, look-start, look-here, look-next, look-end, look-find}
 use Rattle.run.proofs.Locating.{locate-high, locate-below, locate-above}
 use Rattle.run.proofs.Opening.{locates}
-use borrow.Author.Rules.{zero≤}
 use Rattle.run.proofs.Sums.{same_place, order-on, below-le, near, near_on, step-on, end-nearer, below_all, low_fits, low_near, one-fits, one-near, two-fit, two-near, three-fit, three-near, last_fits, last-near}
 use Rattle.run.proofs.seek.locate.Given as goal
 

@@ -23,7 +23,7 @@ shape_of-dir-then-not-is_unknown c = refl
 pub returns-then-not-is_unknown : goal.returns-then-not-is_unknown
 returns-then-not-is_unknown c =
     let a = c.args in
-    let u = c.is_unknown in record { sane_after = tt; deck_steps = deck-known a.w.now a.dir.now a.names.now a.decks.now a.d a.word a.line.now _ _ _ _ (sym u.ensures ∙ not_taken u.result c.if-not-is_unknown.true) }
+    let u = c.is_unknown in record { sane_after = tt; deck_steps = deck-known a.w.now a.dir.now a.names.now a.decks.now a.d a.word a.line.now a.w.now a.dir.now a.names.now a.decks.now (sym u.ensures ∙ c.if-not-is_unknown.true) }
 
 pub open_ahead-m-requires : goal.open_ahead-m-requires
 open_ahead-m-requires c = let p = c.requires.0 in (p.ordered, room-place _ p.room)
@@ -100,5 +100,5 @@ returns c =
     let r = c.limited.ensures in record {
       sane_after = subst (SaneAfter p.new.w) (sym r) (fitted-sane p.new.w (deck_desk a.d p.result) (subst (λ (k : ℕ). p.result.hi ≤ k) (sym p.auto.w) high) (same ∙ pre.0.room) (two-on _) (place_up _ _ pre.0.yanks) (same_place _));
       deck_steps = subst (DeckSteps a.w.now a.dir.now a.names.now a.decks.now a.d a.word a.line.now p.new.w (set a.dir.now a.d.entries a.word) (set a.names.now (a.d.decks + 1) a.word) (set a.decks.now (a.d.entries + 1) 1)) (sym r)
-          (deck-on a.w.now a.dir.now a.names.now a.decks.now a.d a.word a.line.now o.new.w o.result p.new.w p.result pre.0 pre.1.0 pre.1.1.0 pre.1.1.1 (sym u.ensures ∙ not_left u.result c.if-not-is_unknown.false) o.ensures.opens_ahead half (same ∙ pre.0.room) high p.ensures.puts_line);
+          (deck-on a.w.now a.dir.now a.names.now a.decks.now a.d a.word a.line.now o.new.w o.result p.new.w p.result pre.0 pre.1.0 pre.1.1.0 pre.1.1.1 (sym u.ensures ∙ c.if-not-is_unknown.false) o.ensures.opens_ahead half (same ∙ pre.0.room) high p.ensures.puts_line);
     }

@@ -27,10 +27,10 @@ limited-requires c =
     (order-on _ _ _ h.0 (room-place _ p.room), (h.1, (entries-small _ p.entries, decks-small _ p.decks)))
 
 pub returns-in-Nowhere : goal.returns-in-Nowhere
-returns-in-Nowhere c = let a = c.args in record { sane_after = tt; text_steps = text-off a.w.now a.d a.line.now _ c.in-Nowhere.is }
+returns-in-Nowhere c = let a = c.args in record { sane_after = tt; text_steps = text-off a.w.now a.d a.line.now a.w.now c.in-Nowhere.is }
 
 pub returns-in-Yanks : goal.returns-in-Yanks
-returns-in-Yanks c = let a = c.args in record { sane_after = tt; text_steps = text-barred a.w.now a.d a.line.now _ c.in-Yanks.is }
+returns-in-Yanks c = let a = c.args in record { sane_after = tt; text_steps = text-barred a.w.now a.d a.line.now a.w.now c.in-Yanks.is }
 
 pub shape_of-w : goal.shape_of-w
 shape_of-w c = c.put_line-h.auto.w

@@ -16,7 +16,7 @@ use Rattle.run.proofs.yanks.yank_step.Goals as goal
 
 pub returns-then-not-d : goal.returns-then-not-d
 returns-then-not-d c =
-    let a = c.args in record { sane_after = tt; yank_steps = yank-off a.w.now a.dir.now a.names.now a.flags.now a.d a.line.now _ _ (not_taken a.d.set c.if-not-d.true) }
+    let a = c.args in record { sane_after = tt; yank_steps = yank-off a.w.now a.dir.now a.names.now a.flags.now a.d a.line.now a.w.now a.flags.now (not_taken a.d.set c.if-not-d.true) }
 
 pub overflow_add-k : goal.overflow_add-k
 overflow_add-k c = deck-fits _ c.requires.0.decks
@@ -29,7 +29,7 @@ returns-then-any_unknown c =
     let a = c.args in
     let set = not_left a.d.set c.if-not-d.false in
     let same = c.field_of-field.ensures in
-    let unknown = ap (λ (f : List ℕ). any (unknown_in (take a.d.entries a.dir.now)) (names_in f)) (sym same) ∙ sym c.any_unknown.ensures ∙ c.if-any_unknown.true in record { sane_after = tt; yank_steps = yank-unknown a.w.now a.dir.now a.names.now a.flags.now a.d a.line.now _ _ set unknown }
+    let unknown = ap (λ (f : List ℕ). any (unknown_in (take a.d.entries a.dir.now)) (names_in f)) (sym same) ∙ sym c.any_unknown.ensures ∙ c.if-any_unknown.true in record { sane_after = tt; yank_steps = yank-unknown a.w.now a.dir.now a.names.now a.flags.now a.d a.line.now a.w.now a.flags.now set unknown }
 
 pub any_no_set-requires : goal.any_no_set-requires
 any_no_set-requires c = let p = c.requires in (entry_place _ _ p.0.entries p.1.0, decks-in _ _ p.0.decks p.1.1.0)
@@ -40,7 +40,7 @@ returns-then-any_no_set c =
     let set = not_left a.d.set c.if-not-d.false in
     let same = c.field_of-field.ensures in
     let known = ap (λ (f : List ℕ). any (unknown_in (take a.d.entries a.dir.now)) (names_in f)) (sym same) ∙ sym c.any_unknown.ensures ∙ c.if-any_unknown.false in
-    let barred = ap (λ (f : List ℕ). any (no_set_in a.d.entries (take a.d.entries a.dir.now) (take (a.d.decks + 1) a.names.now)) (names_in f)) (sym same) ∙ sym c.any_no_set.ensures ∙ c.if-any_no_set.true in record { sane_after = tt; yank_steps = yank-no-set a.w.now a.dir.now a.names.now a.flags.now a.d a.line.now _ _ set known barred }
+    let barred = ap (λ (f : List ℕ). any (no_set_in a.d.entries (take a.d.entries a.dir.now) (take (a.d.decks + 1) a.names.now)) (names_in f)) (sym same) ∙ sym c.any_no_set.ensures ∙ c.if-any_no_set.true in record { sane_after = tt; yank_steps = yank-no-set a.w.now a.dir.now a.names.now a.flags.now a.d a.line.now a.w.now a.flags.now set known barred }
 
 pub put_yank-requires : goal.put_yank-requires
 put_yank-requires c = c.requires.0

@@ -4,6 +4,7 @@ use mathlib.Core.Path.{◌≡◌, refl}
 use mathlib.Core.List.{List, [], ◌∷◌}
 use denote.Enum.Declared.{tag_of}
 use types.Run.{OneOf, miss}
+use borrow.Enum.Refused.{opened}
 use Rattle.words_lines.specs.Directive.{line_number}
 use Rattle.words_lines.specs.declared.Line.{Line}
 use Rattle.words_lines.specs.declared.Line.TheVariants.{Text, Skipped, Deck, Comdeck, Ident, Insert, Before, Delete, Restore, Yank, Outside, Long, Malformed, NotCarried}
@@ -31,4 +32,4 @@ none Malformed k = absurd (miss others 12 tt k)
 none NotCarried k = absurd (miss others 13 tt k)
 
 pub returns-in_default : goal.returns-in_default
-returns-in_default c = none c.args.l c.in_default.in_default-own.keys5
+returns-in_default c = none c.args.l (opened c.in_default.in_default-own.keys5)

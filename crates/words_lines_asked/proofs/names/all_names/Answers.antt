@@ -11,35 +11,30 @@ use Rattle.words_lines.proofs.FieldNames.{Step, step-name, step_end}
 use borrow.Author.Rules.{rules}
 use Rattle.words_lines_asked.proofs.names.all_names.Goals as goal
 
--- the name that was found
-step : (c : goal.In-Name) →
-    let found = c.word-1.given.0 in
-    Step c.args.field.now c.loop-word.at c.in-Name.word c.in-Name.next
-step c =
-    let f = c.args.field.now in
-    let found = c.word-1.given in
-    step-name f c.loop-word.at c.in-Name.word c.in-Name.next (sym c.next_name.ensures ∙ c.in-Name.is)
-
 pub loop-word-init : goal.loop-word-init
 loop-word-init c = (search rules, refl)
 
 pub returns-then-word-eq0 : goal.returns-then-word-eq0
 returns-then-word-eq0 c =
+    let step : Step c.args.field.now c.loop-word.at c.in-Name.word c.in-Name.next = step-name c.args.field.now c.loop-word.at c.in-Name.word c.in-Name.next (sym c.next_name.ensures ∙ c.in-Name.is) in
     let l = c.loop-word in
     let f = c.args.field.now in
     let p = take_until is_comma (drop l.at f) in
-    let s = step c.before in
+    let s = step in
     sym (l.invariant.1 ∙ all-not is_comma l.at f s.inside p refl is_name (no_name p (sym s.word ∙ c.if-word-eq0.true)))
 
 pub loop-word-smaller : goal.loop-word-smaller
-loop-word-smaller c = omega (arith, (step c.before).falls, (step c.before).inside)
+loop-word-smaller c =
+    let step : Step c.args.field.now c.loop-word.at c.in-Name.word c.in-Name.next = step-name c.args.field.now c.loop-word.at c.in-Name.word c.in-Name.next (sym c.next_name.ensures ∙ c.in-Name.is) in
+    omega (arith, step.falls, step.inside)
 
 pub loop-word-preserved : goal.loop-word-preserved
 loop-word-preserved c =
+    let step : Step c.args.field.now c.loop-word.at c.in-Name.word c.in-Name.next = step-name c.args.field.now c.loop-word.at c.in-Name.word c.in-Name.next (sym c.next_name.ensures ∙ c.in-Name.is) in
     let l = c.loop-word in
     let f = c.args.field.now in
     let p = take_until is_comma (drop l.at f) in
-    let s = step c.before in
+    let s = step in
     let next = all-next is_comma l.at f s.inside p refl is_name (is_name_lem p (λ e. c.if-word-eq0.false (s.word ∙ e))) in
     (s.bound, l.invariant.1 ∙ next ∙ ap (λ n. all is_name (parts_from is_comma n f)) (sym s.next))
 

@@ -9,20 +9,20 @@ use Rattle.words_lines_asked.proofs.CardsByWord.{card-both, card-nameless, card-
 use borrow.Author.Rules.{rules}
 use Rattle.words_lines_asked.proofs.names.card_of.Goals as goal
 
-name : (c : goal.After-word_of_name-name) → c.word_of_name-name.result ≡ word_of_name (take_until (eqb point) c.args.p.now)
-name c = c.word_of_name-name.ensures ∙ ap word_of_name c.part_at.ensures
-
-number : (c : goal.After-number_read-seq) → c.number_read-seq.result ≡ number_read (beyond (eqb point) c.args.p.now)
-number c = c.number_read-seq.ensures ∙ ap number_read c.part_after.ensures
-
 pub returns-then-name-eq0 : goal.returns-then-name-eq0
-returns-then-name-eq0 c = card-nameless c.args.p.now (sym (name c.before.before.before) ∙ c.if-name-eq0.true)
+returns-then-name-eq0 c =
+    let name : c.word_of_name-name.result ≡ word_of_name (take_until (eqb point) c.args.p.now) = c.word_of_name-name.ensures ∙ ap word_of_name c.part_at.ensures in
+    card-nameless c.args.p.now (sym name ∙ c.if-name-eq0.true)
 
 pub returns-then-seq-eq0 : goal.returns-then-seq-eq0
-returns-then-seq-eq0 c = card-numberless c.args.p.now (sym (number c.before.before) ∙ c.if-seq-eq0.true)
+returns-then-seq-eq0 c =
+    let number : c.number_read-seq.result ≡ number_read (beyond (eqb point) c.args.p.now) = c.number_read-seq.ensures ∙ ap number_read c.part_after.ensures in
+    card-numberless c.args.p.now (sym number ∙ c.if-seq-eq0.true)
 
 pub returns : goal.returns
 returns c =
-    let word = name c.before.before.before.before in
-    let read = number c.before.before in
+    let name : c.word_of_name-name.result ≡ word_of_name (take_until (eqb point) c.args.p.now) = c.word_of_name-name.ensures ∙ ap word_of_name c.part_at.ensures in
+    let number : c.number_read-seq.result ≡ number_read (beyond (eqb point) c.args.p.now) = c.number_read-seq.ensures ∙ ap number_read c.part_after.ensures in
+    let word = name in
+    let read = number in
     rw (word, read) (card-both c.args.p.now (λ e. c.if-name-eq0.false (word ∙ e)) (λ e. c.if-seq-eq0.false (read ∙ e)))

@@ -8,16 +8,6 @@ use Rattle.words_lines_asked.proofs.DirectiveAsks.{name-one, name-none, name-mor
 use borrow.Author.Rules.{rules}
 use Rattle.words_lines_asked.proofs.names.name_field.Goals as goal
 
-none : (c : goal.Else-word-ne0) → word_of_name c.args.field.now ≡ 0
-none c = sym c.word_of_name-word.ensures ∙ c.if-word-ne0.false
-
-first : (c : goal.After-word_of_name) →
-    c.word_of_name.result ≡ word_of_name (take_until is_comma c.args.field.now)
-first c = c.word_of_name.ensures ∙ ap word_of_name c.part_at.ensures
-
-named : (c : goal.Else-word_of_name-eq0) → word_of_name (take_until is_comma c.args.field.now) ≡ 0 → ⊥
-named c e = c.if-word_of_name-eq0.false (first c.before ∙ e)
-
 pub returns-then-word-ne0 : goal.returns-then-word-ne0
 returns-then-word-ne0 c =
     let w = c.word_of_name-word in
@@ -25,15 +15,23 @@ returns-then-word-ne0 c =
 
 pub returns-then-word_of_name-eq0 : goal.returns-then-word_of_name-eq0
 returns-then-word_of_name-eq0 c =
+    let none : word_of_name c.args.field.now ≡ 0 = sym c.word_of_name-word.ensures ∙ c.if-word-ne0.false in
+    let first : c.word_of_name.result ≡ word_of_name (take_until is_comma c.args.field.now) = c.word_of_name.ensures ∙ ap word_of_name c.part_at.ensures in
     let f = c.args.field.now in
-    name-none f (none c.before.before.before) (sym (first c.before) ∙ c.if-word_of_name-eq0.true)
+    name-none f none (sym first ∙ c.if-word_of_name-eq0.true)
 
 pub returns-then-none_empty : goal.returns-then-none_empty
 returns-then-none_empty c =
+    let none : word_of_name c.args.field.now ≡ 0 = sym c.word_of_name-word.ensures ∙ c.if-word-ne0.false in
+    let first : c.word_of_name.result ≡ word_of_name (take_until is_comma c.args.field.now) = c.word_of_name.ensures ∙ ap word_of_name c.part_at.ensures in
+    let named : word_of_name (take_until is_comma c.args.field.now) ≡ 0 → ⊥ = λ e. c.if-word_of_name-eq0.false (first ∙ e) in
     let f = c.args.field.now in
-    name-more f (none c.before.before.before.before.before) (named c.before.before) (sym c.none_empty.ensures ∙ c.if-none_empty.true)
+    name-more f none named (sym c.none_empty.ensures ∙ c.if-none_empty.true)
 
 pub returns-else-none_empty : goal.returns-else-none_empty
 returns-else-none_empty c =
+    let none : word_of_name c.args.field.now ≡ 0 = sym c.word_of_name-word.ensures ∙ c.if-word-ne0.false in
+    let first : c.word_of_name.result ≡ word_of_name (take_until is_comma c.args.field.now) = c.word_of_name.ensures ∙ ap word_of_name c.part_at.ensures in
+    let named : word_of_name (take_until is_comma c.args.field.now) ≡ 0 → ⊥ = λ e. c.if-word_of_name-eq0.false (first ∙ e) in
     let f = c.args.field.now in
-    name-gap f (none c.before.before.before.before.before) (named c.before.before) (sym c.none_empty.ensures ∙ c.if-none_empty.false)
+    name-gap f none named (sym c.none_empty.ensures ∙ c.if-none_empty.false)

@@ -70,4 +70,6 @@ overflow_mul-words c =
 pub returns : goal.returns
 returns c =
     let l = c.loop-i in
-    let p : c.power.result ≡ 64 ^ (10 - l.k) = power_in (10 - l.k) c.power.ensures (omega arith) in record { value = (rw p (fill-part c.args.codes.now c.args.words.now l.words l.m l.w l.k l.i c.loop-i-test.false l.invariant.owed l.invariant.rest (omega arith) l.invariant.few c.if-k-eq0.false)).0; words_after = (rw p (fill-part c.args.codes.now c.args.words.now l.words l.m l.w l.k l.i c.loop-i-test.false l.invariant.owed l.invariant.rest (omega arith) l.invariant.few c.if-k-eq0.false)).1 }
+    let p : c.power.result ≡ 64 ^ (10 - l.k) = power_in (10 - l.k) c.power.ensures (omega arith) in
+    let part = fill-part c.args.codes.now c.args.words.now l.words l.m l.w l.k l.i c.loop-i-test.false l.invariant.owed l.invariant.rest (omega arith) l.invariant.few c.if-k-eq0.false in
+    record { value = part.0; words_after = rw p part.1 }

@@ -13,9 +13,6 @@ use Rattle.words.proofs.TextTrip.{codes-written, length-written}
 use Rattle.words_text_compress.proofs.FilledWords.{codes-below}
 use Rattle.words_text_compress.proofs.compressing.write.Goals as goal
 
-codes : (c : goal.After-put_line-n) → take c.put_line-n.result c.put_line-n.new.codes ≡ compress (map code_of (trim c.args.line.now))
-codes c = c.put_line-n.ensures.codes_after ∙ ap (λ (r : List ℕ). compress (map code_of r)) c.trimmed.ensures
-
 pub put_line-n-requires : goal.put_line-n-requires
 put_line-n-requires c = record { line_len_bound = omega (arith, ap length c.trimmed.ensures, length-trim c.args.line.now); codes_len = search rules }
 
@@ -26,8 +23,11 @@ slice_bounds-fill-end c =
 
 pub fill-requires : goal.fill-requires
 fill-requires c =
-    let l = c.args.line.now in record { by_index = (rw (codes c.before.before.before) (codes-below (compress (map code_of (trim l))) (codes-written l c.requires.line_value), (omega (arith, length-written l), omega arith))).0; codes_len_bound = (rw (codes c.before.before.before) (codes-below (compress (map code_of (trim l))) (codes-written l c.requires.line_value), (omega (arith, length-written l), omega arith))).1.0; in_bounds = (rw (codes c.before.before.before) (codes-below (compress (map code_of (trim l))) (codes-written l c.requires.line_value), (omega (arith, length-written l), omega arith))).1.1 }
+    let codes : take c.put_line-n.result c.put_line-n.new.codes ≡ compress (map code_of (trim c.args.line.now)) = c.put_line-n.ensures.codes_after ∙ ap (λ (r : List ℕ). compress (map code_of r)) c.trimmed.ensures in
+    let l = c.args.line.now in record { by_index = rw codes (codes-below (compress (map code_of (trim l))) (codes-written l c.requires.line_value)); codes_len_bound = rw codes (omega (arith, length-written l)); in_bounds = omega arith }
 
 pub returns : goal.returns
 unfolding text_words
-returns c = record { value = (rw (codes c.before.before.before.before.before.before) at (c.fill.ensures.value, c.fill.ensures.words_after)).0; text_after = (rw (codes c.before.before.before.before.before.before) at (c.fill.ensures.value, c.fill.ensures.words_after)).1 }
+returns c =
+    let codes : take c.put_line-n.result c.put_line-n.new.codes ≡ compress (map code_of (trim c.args.line.now)) = c.put_line-n.ensures.codes_after ∙ ap (λ (r : List ℕ). compress (map code_of r)) c.trimmed.ensures in
+    record { value = rw codes at c.fill.ensures.value; text_after = rw codes at c.fill.ensures.words_after }

@@ -34,7 +34,7 @@ loop-i-preserved c =
     let x = code_of (get_or s l.i 0) in
     let other : (x ≡ gap → ⊥) = λ e. c.if-b-eq-BLANK.false (code-blank (get_or s l.i 0) e) in
     let is : c.code_of.result ≡ x = c.code_of.ensures in
-    let put = put_then (blanks l.n) (sign x []) l.codes _ _ l.at _ _ (c.put_blanks-next.ensures.value, c.put_blanks-next.ensures.codes_after) (rw is at (c.put_sign-at.ensures.value, c.put_sign-at.ensures.codes_after)) in
+    let put = put_then (blanks l.n) (sign x []) l.codes _ _ l.at _ _ (c.put_blanks-next.ensures.value, c.put_blanks-next.ensures.codes_after) (rw is at c.put_sign-at.ensures.value, rw is at c.put_sign-at.ensures.codes_after) in
     record {
       inside = omega arith;
       long = omega (arith, c.put_blanks-next.auto.codes, c.put_sign-at.auto.codes);

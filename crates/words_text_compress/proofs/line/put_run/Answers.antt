@@ -9,13 +9,13 @@ use Rattle.words_text_compress.proofs.line.put_run.Goals as goal
 
 pub returns-then-n-eq0 : goal.returns-then-n-eq0
 returns-then-n-eq0 c =
-    let n : c.args.n ≡ 0 = c.if-n-eq0.true in record { value = (rw n (omega arith, sym (append-nil _))).0; codes_after = (rw n (omega arith, sym (append-nil _))).1 }
+    let n : c.args.n ≡ 0 = c.if-n-eq0.true in record { value = rw n (omega arith); codes_after = rw n (sym (append-nil _)) }
 
 pub returns-then-n-eq1 : goal.returns-then-n-eq1
-returns-then-n-eq1 c = record { value = (rw c.if-n-eq1.true (c.put_one.ensures.value, c.put_one.ensures.codes_after)).0; codes_after = (rw c.if-n-eq1.true (c.put_one.ensures.value, c.put_one.ensures.codes_after)).1 }
+returns-then-n-eq1 c = record { value = rw c.if-n-eq1.true c.put_one.ensures.value; codes_after = rw c.if-n-eq1.true c.put_one.ensures.codes_after }
 
 pub returns-then-n-eq2 : goal.returns-then-n-eq2
-returns-then-n-eq2 c = record { value = (rw c.if-n-eq2.true (c.put_two.ensures.value, c.put_two.ensures.codes_after)).0; codes_after = (rw c.if-n-eq2.true (c.put_two.ensures.value, c.put_two.ensures.codes_after)).1 }
+returns-then-n-eq2 c = record { value = rw c.if-n-eq2.true c.put_two.ensures.value; codes_after = rw c.if-n-eq2.true c.put_two.ensures.codes_after }
 
 pub returns : goal.returns
 returns c =

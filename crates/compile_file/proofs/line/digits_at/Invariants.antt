@@ -1,0 +1,15 @@
+-- What is passed is blank. Assumes nothing.
+use borrow.Author.Rules.{rules}
+use Prim.Native.Nat.{◌-◌, ◌≤◌}
+use native.Mathlib.Omega.{arith}
+use mathlib.Core.Path.{◌≡◌, refl, sym, ap, ◌∙◌}
+use lib.ListN.{length, drop, drop_of_length-le}
+use Rattle.compile_file.specs.Written.{after_blanks}
+use Rattle.compile_file.proofs.RefusalLine.{blank-more, blank-stop}
+use Rattle.compile_file.proofs.line.digits_at.Given as goal
+
+abbrev pub invariant-loop-i : goal.invariant-loop-i
+invariant-loop-i l = (l.i ≤ length l.field) × (after_blanks (drop l.i l.field) ≡ after_blanks l.field)
+
+abbrev pub decreases-loop-i : goal.decreases-loop-i
+decreases-loop-i l = length l.field - l.i
