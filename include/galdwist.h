@@ -1,4 +1,4 @@
-/* Galdwist for C: what the archive of crates/face exports (`rt staticlib face` writes target/staticlib/libface.a, for x86-64).
+/* Galdwist for C: what the archive of crates/face_c exports (tools/archive writes target/staticlib/libface.a, for x86-64).
  *
  * A slice is a pointer and a count of elements. Slices of one call do not overlap, and a pointer is null only where its count is 0.
  * A function returns the number of the table (docs/RULES.md, "Numbers of the answers"), 0 where it is done. A refusal leaves every slice as it was;
