@@ -1,6 +1,5 @@
 -- The length of the input is tested first. Assumes nothing.
 use Rattle.compile_file.proofs.ProgramWrites.{program-over, program-within}
-use borrow.Author.Rules.{rules}
 use Rattle.compile_file.proofs.program.Goals as goal
 
 pub returns-then-input-gt-MOST : goal.returns-then-input-gt-MOST

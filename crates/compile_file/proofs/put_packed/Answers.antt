@@ -3,7 +3,6 @@ use mathlib.Core.Path.{sym}
 use lib.Seq.{length-take-le}
 use Rattle.words_packing.specs.declared.Packing.TheVariants.{Length, Tail, Space as NoSpace}
 use Rattle.compile_file.proofs.ProgramWrites.{unpacked-front, unpack-done, unpack-refused}
-use borrow.Author.Rules.{rules}
 use Rattle.compile_file.proofs.put_packed.Goals as goal
 
 pub slice_bounds-put_file-end : goal.slice_bounds-put_file-end

@@ -1,11 +1,8 @@
 -- What is passed is blank. Assumes nothing.
-use borrow.Author.Rules.{rules}
 use Prim.Native.Nat.{◌-◌, ◌≤◌}
-use native.Mathlib.Omega.{arith}
-use mathlib.Core.Path.{◌≡◌, refl, sym, ap, ◌∙◌}
-use lib.ListN.{length, drop, drop_of_length-le}
+use mathlib.Core.Path.{◌≡◌}
+use lib.ListN.{length, drop}
 use Rattle.compile_file.specs.Written.{after_blanks}
-use Rattle.compile_file.proofs.RefusalLine.{blank-more, blank-stop}
 use Rattle.compile_file.proofs.line.digits_at.Given as goal
 
 abbrev pub invariant-loop-i : goal.invariant-loop-i

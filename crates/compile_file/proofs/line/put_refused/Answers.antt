@@ -1,5 +1,4 @@
 -- The parts of the line stand one after another. Assumes nothing.
-use borrow.Author.Rules.{rules}
 use native.Mathlib.Omega.{arith}
 use Rattle.compile_file.proofs.RefusalLine.{refused-put}
 use Rattle.compile_file.proofs.line.put_refused.Goals as goal

@@ -1,5 +1,4 @@
 -- The parts of the line stand one after another. Assumes nothing.
-use borrow.Author.Rules.{rules}
 use native.Mathlib.Omega.{arith}
 use Rattle.compile_file.proofs.RefusalLine.{card-put}
 use Rattle.compile_file.proofs.line.put_refused_card.Goals as goal
