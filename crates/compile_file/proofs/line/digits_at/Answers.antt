@@ -11,7 +11,8 @@ loop-i-init c = (omega arith, refl)
 pub returns-then-field-i-ne-BLANK : goal.returns-then-field-i-ne-BLANK
 returns-then-field-i-ne-BLANK c =
     let l = c.loop-i in
-    let s = c.args.field.now in record { upper_bound = omega arith; field_value = sym (blank-stop s l.i c.loop-i-test.true c.if-field-i-ne-BLANK.true) ∙ l.invariant.1 }
+    let s = c.args.field.now in
+    record { upper_bound = omega arith; field_value = sym (blank-stop s l.i c.loop-i-test.true c.if-field-i-ne-BLANK.true) ∙ l.invariant.1 }
 
 pub loop-i-preserved : goal.loop-i-preserved
 loop-i-preserved c =
@@ -23,4 +24,5 @@ pub returns : goal.returns
 returns c =
     let l = c.loop-i in
     let s = c.args.field.now in
-    let none = drop_of_length-le s {i = l.i} c.loop-i-test.false in record { upper_bound = omega arith; field_value = none ∙ sym (ap after_blanks none) ∙ l.invariant.1 }
+    let none = drop_of_length-le s {i = l.i} c.loop-i-test.false in
+    record { upper_bound = omega arith; field_value = none ∙ sym (ap after_blanks none) ∙ l.invariant.1 }

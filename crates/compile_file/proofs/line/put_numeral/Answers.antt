@@ -21,4 +21,5 @@ returns c =
     let f = c.put_number.new.field in
     let k = 20 - d.result in
     let all : take k (drop d.result f) ≡ drop d.result f = take_all k (drop d.result f) (omega (arith, length-drop d.result f, p.auto.field)) in
-    let e : take k (drop d.result f) ≡ numeral a.n = all ∙ d.ensures.field_value ∙ ap after_blanks p.ensures.field_after ∙ field-numeral a.n (replicate 20 blank) refl in record { value = (omega (arith, t.ensures.value, ap length e), omega (arith, t.ensures.value, ap length e, numeral-few a.n)); out_after = t.ensures.out_after ∙ ap (λ (x : List ℕ). put_at a.at x a.out.now) e }
+    let e : take k (drop d.result f) ≡ numeral a.n = all ∙ d.ensures.field_value ∙ ap after_blanks p.ensures.field_after ∙ field-numeral a.n (replicate 20 blank) refl in
+    record { value = (omega (arith, t.ensures.value, ap length e), omega (arith, t.ensures.value, ap length e, numeral-few a.n)); out_after = t.ensures.out_after ∙ ap (λ (x : List ℕ). put_at a.at x a.out.now) e }

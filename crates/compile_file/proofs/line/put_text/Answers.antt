@@ -5,4 +5,5 @@ use Rattle.compile_file.proofs.line.put_text.Goals as goal
 
 pub returns : goal.returns
 returns c =
-    let a = c.args in record { value = refl; out_after = c.put_bytes.ensures ∙ over-put a.at a.text.now a.out.now c.requires }
+    let a = c.args in
+    record { value = refl; out_after = c.put_bytes.ensures ∙ over-put a.at a.text.now a.out.now c.requires }
