@@ -26,50 +26,50 @@
 
 /* Packs words of 60 bits, each given as eight bytes, the lowest ahead: the bits in a row, the highest of each word ahead, 15 bytes for two words
  * and 8 for a last one alone. 50 where n is no multiple of 8; 53 where a number has more than 60 bits or the bytes do not fit. `written`: bytes written, or 0.
- * words_packing/specs/Pack.antt: packingEights, packEightsInto. */
+ * words_packing/specs/Pack.antt: packing_eights, pack_eights_into. */
 uint64_t galdwist_pack(const uint8_t *words, size_t n, uint8_t *out, size_t room, uint64_t *written);
 
 /* Unpacks bytes to words, each written as eight bytes, the lowest ahead. 50 where n is no length of packed words or room no multiple
  * of 8; 53 where the words do not fit; 51 where the last 4 bits of an odd last word are not zero. `written`: bytes written, or 0.
- * words_packing/specs/Pack.antt: unpackingEights, unpackEightsInto. */
+ * words_packing/specs/Pack.antt: unpacking_eights, unpack_eights_into. */
 uint64_t galdwist_unpack(const uint8_t *bytes, size_t n, uint8_t *out, size_t room, uint64_t *written);
 
 /* The library check of an image. Answers the row of the first fault, 1 to 10, or 0; `place`: the word at fault, or 0.
- * library/specs/Check.antt: check, checkedNumber, checkedPlace. */
+ * library/specs/Check.antt: check, checked_number, checked_place. */
 uint64_t galdwist_check(const uint64_t *image, size_t n, uint64_t *place);
 
 /* The correction run: a stream of k bytes on the old library, the new one written to `space`. 1 to 10 where the old one is no library;
  * 19 to 32 where the stream is refused. `value`: words written; the word at fault for 1 to 10; the line for 20 to 31; 0 for 19 and 32.
- * run_meaning/specs/Run.antt: running, ranNumber, ranValue, runInto. */
+ * run_meaning/specs/Run.antt: running, ran_number, ran_value, run_into. */
 uint64_t galdwist_run(const uint64_t *old, size_t n, const uint8_t *stream, size_t k, uint64_t *space, size_t room, uint64_t *value);
 
 /* The merge: the second library after the first, its numbers in histories raised by the count of the first's directory, written to `space`.
  * 1 to 10 where one is no library, the first ahead of the second; 37 where both have a name; 31 where the two together pass a limit; 32 where
  * the space is too small. `value`: words written; the word at fault for 1 to 10; the word of the second's directory for 37; 0 for 31 and 32.
  * `which`: the library that the word is of, 1 or 2; else 0.
- * merge_meaning/specs/Merge.antt: merging, mergedNumber, mergedValue, mergedWhich, mergeInto. */
+ * merge_meaning/specs/Merge.antt: merging, merged_number, merged_value, merged_which, merge_into. */
 uint64_t galdwist_merge(const uint64_t *first, size_t n, const uint64_t *second, size_t k, uint64_t *space, size_t room, uint64_t *value,
                         uint64_t *which);
 
 /* The full compile file of a library, GALDWIST_LINE bytes to a line. 1 to 10 where the image is no library; 40 to 43 at a CALL; 44 at a line
  * that does not fit. `first` and `second`: how many lines and calls; the word at fault and 0 for 1 to 10; the card's owner, as its
- * number in the directory, and its sequence number for 40 to 44. compile/specs/Compile.antt: compiling, compiledNumber, compiledFirst,
- * compiledSecond, compileInto. */
+ * number in the directory, and its sequence number for 40 to 44. compile/specs/Compile.antt: compiling, compiled_number, compiled_first,
+ * compiled_second, compile_into. */
 uint64_t galdwist_compile(const uint64_t *image, size_t n, uint8_t *out, size_t room, uint64_t *first, uint64_t *second);
 
 /* The fresh library, on which the first run of a library is done. 32 where the space is too small. `value`: words written, or 0.
- * library_fresh/specs/Fresh.antt: freshing, freshInto, begunNumber, begunValue. */
+ * library_fresh/specs/Fresh.antt: freshing, fresh_into, begun_number, begun_value. */
 uint64_t galdwist_fresh(uint64_t *space, size_t room, uint64_t *value);
 
 /* The directory, a row of GALDWIST_ROW bytes to an entry, from number 1: the name in 9 columns, blanks after it; what it is (D a deck, C a
  * common deck, S a set, P purged, its name blank); Y where it is yanked, else a blank. 1 to 10 where the image is no library; 53 where the
  * rows do not fit. `value`: the count of entries; the word at fault for 1 to 10; 0 for 53. keeper_directory/specs/Keeper.antt: listing;
- * keeper_card/specs/Naming.antt: showInto, toldNumber, toldValue. */
+ * keeper_card/specs/Naming.antt: show_into, told_number, told_value. */
 uint64_t galdwist_directory(const uint64_t *image, size_t n, uint8_t *rows, size_t room, uint64_t *value);
 
 /* A card's name, as NAME.NUMBER, from its owner's number in the directory and its sequence number. 1 to 10 where the image is no library;
  * 53 where it does not fit. `value`: bytes written; the word at fault for 1 to 10; 0 for 53. For an owner that the directory lacks, or a purged
- * one, the name is empty. keeper_card/specs/Naming.antt: naming, showInto, toldNumber, toldValue. */
+ * one, the name is empty. keeper_card/specs/Naming.antt: naming, show_into, told_number, told_value. */
 uint64_t galdwist_card(const uint64_t *image, size_t n, uint64_t owner, uint64_t seq, uint8_t *out, size_t room, uint64_t *value);
 
 #endif

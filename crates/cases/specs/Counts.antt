@@ -1,4 +1,5 @@
--- What is lent of an array.
+-- CODE. What is lent of an array.
+--   a length that fits      IsPrefixLen
 use Rattle.std.specs.Prelude.{◌≡◌, ℕ, ◌≤◌, List, length, take}
 
 -- `&xs[..n]` is in bounds and has n bytes. The second part follows from the first, and spares a caller's `&buf[..n]` a proof file.

@@ -29,6 +29,7 @@ pub fn start() -> Feed {
     }
 }
 
+// What a read gives. The one error is that of the read; the array's bytes may then be any.
 fn more<R: Read>(reader: &mut R, input: &mut [u8; INPUT]) -> io::Result<Feed>
     ensures { IfOk result (λ f. f.end ≤ 65536) }
 {

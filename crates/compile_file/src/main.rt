@@ -78,7 +78,8 @@ fn write(rt: &impl Print, input: &[u8]) -> io::Result<()> {
     rt.write_all(&out[..n])
 }
 
-// Reads until the buffer is full or the input ends: how many bytes it put at the buffer's start.
+// Reads until the buffer is full or the input ends: how many bytes it put at the buffer's start. The one error is that of a read; the buffer's bytes may
+// then be any.
 fn read_full<R: Read>(reader: &mut R, buf: &mut [u8]) -> io::Result<usize>
     ensures { IfOk result (λ n. n ≤ length buf.new) }
 {

@@ -1,5 +1,5 @@
 -- MEANING. Small words that the definitions are written in.
---   choice        if_then_else_
+--   choice        if◌then◌else◌
 --   quoted text   bytes_from, bytes, byte
 --   lists         any, all, all_of, any_of, member, same, is_nil, place_from
 --   words         is_word

@@ -1,5 +1,5 @@
 -- Each turn of unpacking writes what the next 15 bytes say, and the rest is unpacked alike.
---   unpacking             unpacked-pair, unpacked-last, unpacked-none, pair-at, left-over
+--   unpacking             unpacked-pair, unpacked-last, unpacked-none, pair-at, left_over
 --   words as eight bytes  put_two
 use mathlib.Core.Path.{◌≡◌, refl, sym, ap, ◌∙◌}
 use mathlib.Core.Bool.{Bool, true, false, ◌||◌}
