@@ -4,6 +4,7 @@
 --   its decks    decks-at
 --   the image    image-table, view-plain, image-answers
 --   the check    compile-sound, compile-refused
+use Rattle.std.specs.Prelude.{if◌then◌else◌}
 use Prim.Native.Nat.{ℕ, zero, suc, ◌+◌, ◌-◌, ◌*◌, ◌%◌, ◌^◌, ◌≤◌, ◌<◌}
 use native.Mathlib.Omega.{arith}
 use mathlib.Core.Path.{◌≡◌, refl, sym, ap, ◌∙◌, subst}
@@ -11,7 +12,6 @@ use mathlib.Core.Bool.{Bool, true, false, ◌&&◌, ◌||◌, not}
 use mathlib.Core.List.{List, [], ◌∷◌, ◌++◌, append_assoc}
 use lib.Dec.{T, eqb}
 use lib.ListN.{length, get_or, drop, length-append, length-drop, get_or-append}
-use Rattle.words.specs.Base.{if◌then◌else◌}
 use Rattle.words.specs.Names.{is_name_word}
 use Rattle.library.specs.Each.{Each}
 use Rattle.library.specs.Library.{Card, Deck, Library, history, deck_card, name_at, deck_names, purged, reserved}

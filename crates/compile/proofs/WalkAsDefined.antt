@@ -3,6 +3,7 @@
 --   the space              into, Fits, write-follows
 --   the walk               Follows, cards-follows, called-follows, decks-follows
 --   the two passes         table-halted, table_done, table-halted-again
+use Rattle.std.specs.Prelude.{if◌then◌else◌}
 use Prim.Native.Nat.{ℕ, zero, suc, ◌+◌, ◌*◌, ◌/◌, ◌≤◌, ◌<◌}
 use native.Mathlib.Omega.{arith}
 use mathlib.Core.Path.{◌≡◌, refl, sym, ap, ◌∙◌, subst}
@@ -12,7 +13,6 @@ use borrow.Author.Tests.{ltb-true}
 use lib.Dec.{eqb, ltb}
 use lib.ListN.{length, take, drop, length-append, length-drop}
 use lib.Seq.{take_at, drop-drop, drop-append-add}
-use Rattle.words.specs.Base.{if◌then◌else◌}
 use Rattle.words_lines.specs.Directive.{call_of}
 use Rattle.words_lines.specs.declared.Call.{Call}
 use Rattle.words_lines.specs.declared.Call.TheVariants.{Not, Of, Malformed}

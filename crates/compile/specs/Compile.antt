@@ -4,8 +4,8 @@
 --   the answer           compiled, file_of, compile_into
 --   the table's numbers  stop_number, compiled_number, compiled_first, compiled_second
 --   the program          refused_line, card_place, program_of, program_space, after_unpacking, program
-use Rattle.std.specs.Prelude.{ℕ, ◌*◌, ◌/◌, List, [], ◌∷◌, ◌++◌, ltb, length, drop}
-use Rattle.words.specs.Base.{if◌then◌else◌, bytes}
+use Rattle.std.specs.Prelude.{ℕ, ◌*◌, ◌/◌, List, [], ◌∷◌, ◌++◌, ltb, length, drop, if◌then◌else◌}
+use Rattle.words.specs.Base.{bytes}
 use Rattle.words.specs.Display.{blank}
 use Rattle.words.specs.Names.{numeral}
 use Rattle.words_packing.specs.Pack.{unpacking, unpacked, packing_number}

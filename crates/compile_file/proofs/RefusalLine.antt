@@ -2,6 +2,7 @@
 --   texts       Puts, puts_then, puts-front, wrote-few, put_byte
 --   numbers     numeral-few, field-numeral, blank-more, blank-stop
 --   the lines   part, part-put, refused-put, card-put
+use Rattle.std.specs.Prelude.{if◌then◌else◌}
 use Prim.Native.Nat.{ℕ, zero, suc, ◌+◌, ◌-◌, ◌/◌, ◌%◌, ◌≤◌, ◌<◌}
 use native.Mathlib.Omega.{arith}
 use native.Mathlib.Numerals.{add-one}
@@ -12,7 +13,7 @@ use borrow.Author.Tests.{le-leb, ne_eqb}
 use lib.Dec.{ltb}
 use lib.ListN.{length, get_or, take, drop, set, replicate, length-append}
 use lib.Seq.{drop-cons, set_split}
-use Rattle.words.specs.Base.{if◌then◌else◌, bytes}
+use Rattle.words.specs.Base.{bytes}
 use Rattle.words.specs.Display.{blank}
 use Rattle.words.specs.Names.{digits, numeral, right_justified}
 use Rattle.words.specs.Spelt.{number_into}

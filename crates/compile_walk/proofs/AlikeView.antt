@@ -1,10 +1,10 @@
 -- What a compile file sees is the same for libraries that differ only in lines of cards that are off.
+use Rattle.std.specs.Prelude.{if◌then◌else◌}
 use Prim.Native.Nat.{ℕ}
 use mathlib.Core.Path.{◌≡◌, refl, ap, ap₂, ◌∙◌, fun_ext}
 use mathlib.Core.Bool.{Bool, true, false}
 use mathlib.Core.List.{List, [], ◌∷◌}
 use lib.Dec.{T}
-use Rattle.words.specs.Base.{if◌then◌else◌}
 use Rattle.library.specs.Library.{Card, Deck, Library, name_at}
 use Rattle.library.specs.Yanks.{active, yanked}
 use Rattle.library.specs.Sound.{Sound}

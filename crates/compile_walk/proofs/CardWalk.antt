@@ -3,6 +3,7 @@
 --   visit-passed, visit-text, visit-stopped, visit-opened one card
 --   visit-starless                                        one whose line begins with no star
 --   run_past, run_end, run_on, run-halt                   the cards from a place up to another
+use Rattle.std.specs.Prelude.{if◌then◌else◌}
 use Prim.Native.Nat.{ℕ, zero, suc, ◌+◌, ◌-◌, ◌≤◌, ◌<◌}
 use native.Mathlib.Omega.{arith}
 use native.Mathlib.Numerals.{add-one}
@@ -12,7 +13,6 @@ use mathlib.Core.List.{List, [], ◌∷◌}
 use borrow.Author.Tests.{ltb-true, eqb-false, ne_eqb}
 use lib.Dec.{eqb, ltb}
 use lib.ListN.{length}
-use Rattle.words.specs.Base.{if◌then◌else◌}
 use Rattle.words_lines.specs.Directive.{call_of}
 use Rattle.words_lines.specs.declared.Call.{Call}
 use Rattle.words_lines.specs.declared.Call.TheVariants.{Not, Of, Malformed}

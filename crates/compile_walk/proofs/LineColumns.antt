@@ -1,6 +1,7 @@
 -- The columns of a line of the compile file, one after another: its text, its owner's name, its number. Assumes nothing.
 --   least-short, Begun, left-..   a text left justified, column by column
 --   name-columns, number-columns, line-whole   the parts of a line put together
+use Rattle.std.specs.Prelude.{if◌then◌else◌}
 use Prim.Native.Nat.{ℕ, zero, suc, ◌+◌, ◌-◌, ◌*◌, ◌/◌, ◌%◌, ◌^◌, ◌≤◌, ◌<◌}
 use native.Mathlib.Omega.{arith}
 use native.Mathlib.Numerals.{add-one}
@@ -13,7 +14,7 @@ use borrow.Rule.Slice.PartMut.{put_mid, post_of, mid_of, same_len_mid, mid_len}
 use lib.Dec.{T, eqb, ltb, leb, leb→le}
 use lib.ListN.{length, get_or, take, drop, set, replicate, length-append, length-drop, length-set, length-take, length-replicate, get_or-replicate, drop_of_length-le, get_or-eq_default}
 use lib.Seq.{take_all, take-suc, take-suc-set, drop-cons, get_or-take, get_or-drop, ext_get_or, get_or-set_same, get_or-set_other, take_at, drop_at, drop-drop}
-use Rattle.words.specs.Base.{if◌then◌else◌, all, is_nil}
+use Rattle.words.specs.Base.{all, is_nil}
 use Rattle.words.proofs.TestParts.{and_left, and_right, true-T}
 use Rattle.words.specs.Display.{blank}
 use Rattle.words.specs.Names.{is_name_byte, is_name, name_word, name_of, is_name_word, digits, numeral, left_justified, right_justified}

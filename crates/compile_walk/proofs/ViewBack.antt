@@ -1,12 +1,13 @@
 -- What a compile file sees after a rollback is what it saw before.
 -- and numbers and names of old decks and owners are the same.
+use Rattle.std.specs.Prelude.{if◌then◌else◌}
 use Prim.Native.Nat.{ℕ, suc, ◌+◌, ◌≤◌, ◌<◌}
 use native.Mathlib.Omega.{arith}
 use mathlib.Core.Path.{◌≡◌, refl, sym, ap, ◌∙◌, subst}
 use mathlib.Core.Bool.{Bool, true, false}
 use mathlib.Core.List.{List, [], ◌∷◌, ◌++◌, map, append_assoc}
 use lib.ListN.{length, length-append}
-use Rattle.words.specs.Base.{if◌then◌else◌, member}
+use Rattle.words.specs.Base.{member}
 use Rattle.library.specs.Each.{Each}
 use Rattle.library.specs.Library.{Card, Deck, Library, name_at}
 use Rattle.library.specs.Yanks.{active, targets, yanked_by, settled, yanked}

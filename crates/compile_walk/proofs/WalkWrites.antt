@@ -1,5 +1,6 @@
 -- What chosen decks write, whatever the space: a walk writes it in full or is stopped with 43 or 44.
 -- a walk writes it in full or is stopped with 43 or 44.
+use Rattle.std.specs.Prelude.{if◌then◌else◌}
 use Prim.Native.Nat.{ℕ, zero, suc, ◌+◌, ◌≤◌, ◌<◌}
 use native.Mathlib.Omega.{arith}
 use mathlib.Core.Path.{◌≡◌, refl, sym, ap, ◌∙◌, subst}
@@ -7,7 +8,6 @@ use mathlib.Core.Bool.{Bool, true, false, not}
 use mathlib.Core.List.{List, [], ◌∷◌, ◌++◌, map, append_assoc, append-nil}
 use lib.Dec.{T, ltb, ltb→lt, nltb→le}
 use lib.ListN.{length, length-append}
-use Rattle.words.specs.Base.{if◌then◌else◌}
 use Rattle.words_lines.specs.Directive.{call_of}
 use Rattle.words_lines.specs.declared.Call.{Call}
 use Rattle.words_lines.specs.declared.Call.TheVariants.{Not, Of, Malformed}

@@ -1,7 +1,6 @@
 -- CODE. A line of the compile file (RULES, "The compile file").
 --   a line      owner_name, line_for
-use Rattle.std.specs.Prelude.{ℕ, List, [], ◌∷◌, ◌++◌}
-use Rattle.words.specs.Base.{if◌then◌else◌}
+use Rattle.std.specs.Prelude.{ℕ, List, [], ◌∷◌, ◌++◌, if◌then◌else◌}
 use Rattle.words.specs.Display.{blank}
 use Rattle.words.specs.Names.{name_of, is_name_word, numeral, left_justified, right_justified}
 

@@ -3,8 +3,7 @@
 --   a text card     put_of, write_of
 --   a CALL          row_place, row_in, find_row, open_at, asked_by, asked_of
 --   the walk        Callee, walk_on, open_of, step_of, run_of, callee_at, run_at, visit_of, deck_of, decks_of
-use Rattle.std.specs.Prelude.{ℕ, zero, suc, ◌+◌, ◌*◌, ◌/◌, Bool, true, false, List, [], ◌∷◌, ◌++◌, eqb, ltb, length, take, drop}
-use Rattle.words.specs.Base.{if◌then◌else◌}
+use Rattle.std.specs.Prelude.{ℕ, zero, suc, ◌+◌, ◌*◌, ◌/◌, Bool, true, false, List, [], ◌∷◌, ◌++◌, eqb, ltb, length, take, drop, if◌then◌else◌}
 use Rattle.words_lines.specs.Directive.{call_of}
 use Rattle.words_lines.specs.declared.Call.{Call}
 use Rattle.words_lines.specs.declared.Call.TheVariants.{Not, Of, Malformed}

@@ -2,8 +2,7 @@
 --   a card    shown_with, shown_named, shown_of
 --   cards     cons_if, shown_up_to, shown_in
 --   decks     row_view, table_view
-use Rattle.std.specs.Prelude.{ℕ, ◌+◌, Bool, true, false, List, [], ◌∷◌, eqb, ltb, get_or}
-use Rattle.words.specs.Base.{if◌then◌else◌}
+use Rattle.std.specs.Prelude.{ℕ, ◌+◌, Bool, true, false, List, [], ◌∷◌, eqb, ltb, get_or, if◌then◌else◌}
 use Rattle.library.specs.declared.Seen.{Seen}
 use Rattle.library_image.specs.Places.{seen_at, line_in, places_in}
 use Rattle.compile_walk.specs.View.{Shown, DeckView}

@@ -1,8 +1,7 @@
 -- MEANING. What a compile file sees of a library (RULES, "The compile file"): its decks, each with its active cards, and nothing else.
 --   the view     Shown, DeckView, shown_card, shown, view_decks, view
 --   the choice   full_choice
-use Rattle.std.specs.Prelude.{ℕ, Bool, List, [], ◌∷◌}
-use Rattle.words.specs.Base.{if◌then◌else◌}
+use Rattle.std.specs.Prelude.{ℕ, Bool, List, [], ◌∷◌, if◌then◌else◌}
 use Rattle.library.specs.Library.{Card, Deck, Library, name_at}
 use Rattle.library.specs.Yanks.{active, yanked}
 

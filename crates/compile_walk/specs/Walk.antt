@@ -2,8 +2,7 @@
 --   a line of 91 bytes    printed
 --   decks by name         Found, found_in, look_in, called_deck
 --   the walk              Walk, halt_at, then_on, Inner, open_deck, at_card, walk_cards, called, walk_decks
-use Rattle.std.specs.Prelude.{ℕ, zero, suc, List, [], ◌∷◌, ◌++◌, eqb, ltb, length}
-use Rattle.words.specs.Base.{if◌then◌else◌}
+use Rattle.std.specs.Prelude.{ℕ, zero, suc, List, [], ◌∷◌, ◌++◌, eqb, ltb, length, if◌then◌else◌}
 use Rattle.words.specs.Display.{blank}
 use Rattle.words.specs.Names.{name_of, numeral, left_justified, right_justified}
 use Rattle.words_lines.specs.Directive.{call_of}

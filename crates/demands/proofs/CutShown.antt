@@ -1,4 +1,5 @@
 -- B3 is met by the shown stream in parts, and without any one of its hypotheses it can fail.
+use Rattle.std.specs.Prelude.{if◌then◌else◌}
 use Prim.Native.Nat.{ℕ, zero, suc, ◌+◌, ◌<◌}
 use native.Mathlib.Omega.{arith}
 use mathlib.Core.Path.{◌≡◌, refl, sym, ap, ◌∙◌, subst}
@@ -7,7 +8,6 @@ use mathlib.Core.List.{List, [], ◌∷◌}
 use lib.Dec.{T}
 use lib.ListN.{length, replicate, length-append, length-replicate}
 use borrow.Author.Tests.{lt-ltb, le-ltb}
-use Rattle.words.specs.Base.{if◌then◌else◌}
 use Rattle.words.specs.Display.{code_of, letter}
 use Rattle.words.specs.Names.{is_name, name_word, name_of, is_name_word, is_number, numeral, left_justified, right_justified}
 use Rattle.words.specs.Text.{blanks, words_of, text_words, says, is_text}

@@ -1,10 +1,11 @@
 -- One view after another: called decks are found where they were, so the lines of both are written.
+use Rattle.std.specs.Prelude.{if◌then◌else◌}
 use Prim.Native.Nat.{ℕ, ◌+◌}
 use mathlib.Core.Path.{◌≡◌, refl, sym, ap, ◌∙◌, subst}
 use mathlib.Core.Bool.{Bool, true, false, ◌||◌, not}
 use mathlib.Core.List.{List, [], ◌∷◌, ◌++◌, map}
 use lib.Dec.{T, eqb}
-use Rattle.words.specs.Base.{if◌then◌else◌, member}
+use Rattle.words.specs.Base.{member}
 use Rattle.library.specs.Library.{reserved}
 use Rattle.compile_walk.specs.View.{Shown, DeckView, full_choice}
 use Rattle.compile_walk.specs.Walk.{printed, Found, missing, not_common, common, found_in, look_in, called_deck}

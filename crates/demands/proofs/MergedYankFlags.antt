@@ -1,5 +1,6 @@
 -- M5: a set that only yanks leaves in a merged library the flags that it leaves in the one whose sets it names.
 -- are those that it leaves in that library, and those of the other as they were.
+use Rattle.std.specs.Prelude.{if◌then◌else◌}
 use Prim.Native.Nat.{ℕ, suc, ◌+◌, ◌≤◌, ◌<◌}
 use native.Mathlib.Omega.{arith}
 use native.Mathlib.Decide.{ℕ_discrete}
@@ -8,7 +9,7 @@ use mathlib.Core.Bool.{Bool, true, false, ◌&&◌, ◌||◌, not}
 use mathlib.Core.List.{List, [], ◌∷◌, ◌++◌, map}
 use lib.Dec.{T, eqb, ltb, ltb→lt}
 use lib.ListN.{length, length-append}
-use Rattle.words.specs.Base.{if◌then◌else◌, any, all, member}
+use Rattle.words.specs.Base.{any, all, member}
 use Rattle.words.specs.Names.{is_name_word}
 use Rattle.words_lines.specs.Directive.{lines, directive}
 use Rattle.words_lines.specs.declared.Line.{Line}

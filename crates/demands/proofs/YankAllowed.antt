@@ -4,6 +4,7 @@
 --   was-new, was-yankable       what an acceptance says
 --   first-new, second-new, first-yankable, second-yankable   of two
 --   allowed-first, allowed-second
+use Rattle.std.specs.Prelude.{if◌then◌else◌}
 use Prim.Native.Nat.{ℕ, suc, ◌+◌, ◌≤◌, ◌<◌}
 use native.Mathlib.Omega.{arith}
 use mathlib.Core.Path.{◌≡◌, refl, sym, ap, ap₂, ◌∙◌, subst}
@@ -13,7 +14,7 @@ use borrow.Author.Tests.{ne_eqb}
 use lib.Dec.{T, eqb, ltb, eqb→eq}
 use lib.ListN.{length, length-append}
 use Rattle.words.proofs.TestParts.{not-true, or-true}
-use Rattle.words.specs.Base.{if◌then◌else◌, any, member}
+use Rattle.words.specs.Base.{any, member}
 use Rattle.words.specs.Names.{is_name_word}
 use Rattle.words_lines.specs.Directive.{lines, directive, yank_names}
 use Rattle.words_lines.specs.declared.Line.{Line}

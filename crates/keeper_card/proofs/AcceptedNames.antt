@@ -3,6 +3,7 @@
 --   directory-long               the directory in its words
 --   directory-is, count-is       that of an accepted image
 --   entry-name, card-named       an entry's name, and a card's
+use Rattle.std.specs.Prelude.{if◌then◌else◌}
 use Prim.Native.Nat.{ℕ, zero, suc, ◌+◌, ◌-◌, ◌≤◌, ◌<◌}
 use native.Mathlib.Omega.{arith}
 use native.Mathlib.Decide.{dec_le}
@@ -13,7 +14,6 @@ use borrow.Author.Tests.{le-leb, lt-leb, le-ltb, lt-ltb, eqb-true, ne_eqb}
 use lib.Dec.{T, eqb, ltb}
 use lib.ListN.{length, get_or, drop, length-take, length-drop}
 use lib.Seq.{get_or-take, get_or-drop}
-use Rattle.words.specs.Base.{if◌then◌else◌}
 use Rattle.words.specs.Names.{is_name, name_word, name_of, is_name_word}
 use Rattle.words.proofs.TestParts.{true-T}
 use Rattle.library.specs.Library.{Library, name_at, purged, reserved}

@@ -1,6 +1,7 @@
 -- A card's name, a point and a number written one after another. Assumes nothing.
 --   name-few, name-taken, name-inside                    the letters of a word
 --   too_short, put-pointed        the bytes in their space
+use Rattle.std.specs.Prelude.{if◌then◌else◌}
 use Prim.Native.Nat.{ℕ, suc, ◌+◌, ◌-◌, ◌≤◌, ◌<◌}
 use native.Mathlib.Omega.{arith}
 use native.Mathlib.Numerals.{add-one}
@@ -12,7 +13,7 @@ use borrow.Rule.Slice.PartMut.{put_mid, post_of, mid_of, mid_len}
 use lib.Dec.{T, eqb, leb, leb→le}
 use lib.ListN.{length, get_or, take, drop, set, length-append, length-drop}
 use lib.Seq.{take_at, drop_at, drop-drop, drop-cons, set_at}
-use Rattle.words.specs.Base.{if◌then◌else◌, all, is_nil}
+use Rattle.words.specs.Base.{all, is_nil}
 use Rattle.words.specs.Names.{is_name_byte, is_name, name_word, name_of, is_name_word, numeral, right_justified}
 use Rattle.words.specs.Spelt.{name_length, name_into, number_into}
 use Rattle.words.proofs.TestParts.{and_left, and_right, true-T}

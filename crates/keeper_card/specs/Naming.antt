@@ -2,8 +2,7 @@
 --   a card              entry_name, card_name
 --   what is shown       Showing, in_space, of_checked, card_shown, naming
 --   the answer          told, show_into, told_number, told_value
-use Rattle.std.specs.Prelude.{ℕ, List, [], ◌∷◌, ◌++◌, leb, length, drop}
-use Rattle.words.specs.Base.{if◌then◌else◌}
+use Rattle.std.specs.Prelude.{ℕ, List, [], ◌∷◌, ◌++◌, leb, length, drop, if◌then◌else◌}
 use Rattle.words.specs.Display.{point}
 use Rattle.words.specs.Names.{name_of, numeral}
 use Rattle.library.specs.Library.{Library, name_at}

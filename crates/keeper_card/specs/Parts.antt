@@ -1,8 +1,7 @@
 -- CODE. What the parts of the functions answer.
 --   of a space           Answers, AnswersOf
 --   a name               word_name, entry_word, pointed
-use Rattle.std.specs.Prelude.{ℕ, ◌+◌, ◌≡◌, List, [], ◌∷◌, ◌++◌, eqb, ltb, get_or}
-use Rattle.words.specs.Base.{if◌then◌else◌}
+use Rattle.std.specs.Prelude.{ℕ, ◌+◌, ◌≡◌, List, [], ◌∷◌, ◌++◌, eqb, ltb, get_or, if◌then◌else◌}
 use Rattle.words.specs.Names.{name_of, is_name_word, numeral}
 use Rattle.library.specs.Library.{Library}
 use Rattle.library.specs.Check.{good, check, directory_count}

@@ -2,6 +2,7 @@
 --   kind-out, shown-kind     one deck card
 --   cards-decks              those of all cards are those of the decks that they part into
 --   decks-kinds              each deck's kind stands at its number
+use Rattle.std.specs.Prelude.{if◌then◌else◌}
 use Prim.Native.Nat.{ℕ, ◌≤◌, ◌<◌}
 use native.Mathlib.Omega.{arith}
 use mathlib.Core.Path.{◌≡◌, refl, sym, ap, ◌∙◌, subst}
@@ -11,7 +12,7 @@ use borrow.Author.Tests.{eqb-true, eqb-false}
 use lib.Dec.{T, eqb}
 use lib.ListN.{length, get_or, set, length-set}
 use lib.Seq.{set_out, get_or-set_same, get_or-set_other}
-use Rattle.words.specs.Base.{if◌then◌else◌, any}
+use Rattle.words.specs.Base.{any}
 use Rattle.library.specs.Library.{Deck, DeckLine, not_deck, bad_deck, deck_of, deck_line}
 use Rattle.library.specs.Check.{Stored, part_at, parted_by}
 use Rattle.library.specs.Asked.{deck_line_of}

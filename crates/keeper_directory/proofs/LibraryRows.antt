@@ -3,6 +3,7 @@
 --   flags-are                 each entry's flag
 --   rows_are                  each entry's row
 --   listed-short, listed-all  the rows in their space
+use Rattle.std.specs.Prelude.{if◌then◌else◌}
 use Prim.Native.Nat.{ℕ, zero, suc, ◌-◌, ◌*◌, ◌≤◌, ◌<◌}
 use native.Mathlib.Omega.{arith}
 use mathlib.Core.Path.{◌≡◌, refl, sym, ap, ◌∙◌, subst}
@@ -11,7 +12,6 @@ use mathlib.Core.List.{List, [], ◌∷◌, ◌++◌}
 use borrow.Author.Tests.{le-leb, lt-leb}
 use lib.Dec.{eqb}
 use lib.ListN.{length, get_or, drop, length-append}
-use Rattle.words.specs.Base.{if◌then◌else◌}
 use Rattle.words.specs.Names.{left_justified}
 use Rattle.library.specs.Library.{Deck, Library, name_at}
 use Rattle.library.specs.Yanks.{yanked}

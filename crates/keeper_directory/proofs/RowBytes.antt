@@ -4,6 +4,7 @@
 --   row_put, row-long    one row
 --   first-long, rows_more              the rows of the first entries
 --   row-at-long, row-at-is             an entry's row
+use Rattle.std.specs.Prelude.{if◌then◌else◌}
 use Prim.Native.Nat.{ℕ, zero, suc, ◌+◌, ◌-◌, ◌*◌, ◌≤◌, ◌<◌}
 use native.Mathlib.Omega.{arith}
 use native.Mathlib.Numerals.{add-one}
@@ -14,7 +15,6 @@ use borrow.Rule.Slice.PartMut.{put_mid, post_of}
 use lib.Dec.{eqb}
 use lib.ListN.{length, get_or, take, drop, set, replicate, length-append, length-take, length-drop, length-replicate, replicate-append-replicate}
 use lib.Seq.{paste, paste-suc, take_all, take-append-add, take_at, drop_at, drop-drop, set_at}
-use Rattle.words.specs.Base.{if◌then◌else◌}
 use Rattle.words.specs.Display.{blank}
 use Rattle.words.specs.Names.{name_of, is_name_word, left_justified}
 use Rattle.words.specs.Spelt.{name_into}

@@ -1,8 +1,8 @@
 -- MEANING. What the keeper of libraries is shown (RULES, "Directory", "Decks", "When a card is active").
 --   an entry         deck_byte, deck_kind, purged_or, entry_kind, yank_mark, entry_row, rows_up_to, entry_rows
 --   what is shown    listed, listing
-use Rattle.std.specs.Prelude.{ℕ, zero, suc, Bool, true, false, List, [], ◌∷◌, ◌++◌, eqb, length}
-use Rattle.words.specs.Base.{if◌then◌else◌, byte}
+use Rattle.std.specs.Prelude.{ℕ, zero, suc, Bool, true, false, List, [], ◌∷◌, ◌++◌, eqb, length, if◌then◌else◌}
+use Rattle.words.specs.Base.{byte}
 use Rattle.words.specs.Display.{blank}
 use Rattle.words.specs.Names.{left_justified}
 use Rattle.library.specs.Library.{Deck, Library, purged, name_at}

@@ -1,4 +1,5 @@
 -- A history's bytes, written with their flags, give back numbers and flags, and pass row 5.
+use Rattle.std.specs.Prelude.{if◌then◌else◌}
 use Prim.Native.Nat.{ℕ, ◌+◌, ◌/◌, ◌%◌, ◌^◌, ◌<◌}
 use native.Mathlib.Omega.{arith}
 use mathlib.Core.Path.{◌≡◌, refl, ap, ◌∙◌}
@@ -6,7 +7,7 @@ use mathlib.Core.Bool.{Bool, true, false, not, ◌&&◌}
 use mathlib.Core.List.{List, [], ◌∷◌, map}
 use lib.Dec.{T, eqb, leb, le→leb}
 use lib.ListN.{length}
-use Rattle.words.specs.Base.{if◌then◌else◌, all}
+use Rattle.words.specs.Base.{all}
 use Rattle.words.proofs.TestParts.{and_both}
 use Rattle.library.specs.Each.{Each}
 use Rattle.library.specs.Library.{Byte, name_at, purged}

@@ -1,10 +1,11 @@
 -- Rows 8 and 10 that find no fault, as facts on the cards, both ways.
+use Rattle.std.specs.Prelude.{if◌then◌else◌}
 use mathlib.Core.Path.{◌≡◌, refl, sym, subst}
 use mathlib.Core.Bool.{Bool, true, false, ◌&&◌, not}
 use mathlib.Core.List.{List, [], ◌∷◌, map}
 use mathlib.Core.Option.{none, some}
 use lib.Dec.{T, eqb}
-use Rattle.words.specs.Base.{if◌then◌else◌, any}
+use Rattle.words.specs.Base.{any}
 use Rattle.words.proofs.TestParts.{and_both, eqb-turn}
 use Rattle.library.specs.Each.{Each}
 use Rattle.library.specs.Sound.{no_two, same_card}

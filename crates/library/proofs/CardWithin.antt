@@ -2,6 +2,7 @@
 --   all_pass            tests in a row, one by one
 --   placed-within       a place that is found lies in the list
 --   Formed, formed-at   a card whose form is right, and where its text ends
+use Rattle.std.specs.Prelude.{if◌then◌else◌}
 use Prim.Native.Nat.{ℕ, suc, ◌+◌, ◌-◌, ◌/◌, ◌%◌, ◌^◌, ◌≤◌, ◌<◌, min}
 use native.Mathlib.Omega.{arith}
 use native.Mathlib.Nat.{add-zero}
@@ -12,7 +13,7 @@ use mathlib.Core.Option.{some}
 use lib.ListN.{length, get_or, take, drop, length-take, length-drop}
 use lib.Seq.{get_or-take, get_or-drop}
 use borrow.Author.Tests.{eqb-true}
-use Rattle.words.specs.Base.{if◌then◌else◌, all_of, place_from}
+use Rattle.words.specs.Base.{all_of, place_from}
 use Rattle.library.specs.Check.{fields_of, is_last_word, form_tests, ok_form}
 
 -- tests in a row that all pass, one by one

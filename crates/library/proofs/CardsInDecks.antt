@@ -1,4 +1,5 @@
 -- Cards that pass row 7 fall into YANK$$$ and the decks of the list, and none is lost.
+use Rattle.std.specs.Prelude.{if◌then◌else◌}
 use Prim.Native.Nat.{ℕ}
 use mathlib.Core.Path.{◌≡◌, refl, sym, ap, ◌∙◌, subst}
 use mathlib.Core.Bool.{Bool, true, false, ◌&&◌, not}
@@ -6,7 +7,7 @@ use mathlib.Core.List.{List, [], ◌∷◌, map}
 use mathlib.Core.Option.{none, some}
 use lib.Dec.{T, eqb, eqb→eq}
 use lib.ListN.{drop}
-use Rattle.words.specs.Base.{if◌then◌else◌, member, is_nil}
+use Rattle.words.specs.Base.{member, is_nil}
 use Rattle.words.specs.Names.{is_name_word}
 use Rattle.library.specs.Each.{Each}
 use Rattle.library.specs.Library.{Byte, Card, DeckLine, not_deck, bad_deck, deck_of, deck_line, deck_cards, joined, name_at, entry_of}

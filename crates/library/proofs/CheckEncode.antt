@@ -1,4 +1,5 @@
 -- An accepted image is what the library that was read is written in: its tables, and card by card its bits.
+use Rattle.std.specs.Prelude.{if◌then◌else◌}
 use Prim.Native.Nat.{ℕ, ◌+◌, ◌/◌, ◌%◌, ◌^◌}
 use native.Mathlib.Omega.{arith}
 use mathlib.Core.Path.{◌≡◌, refl, sym, ap, ◌∙◌}
@@ -8,7 +9,7 @@ use mathlib.Core.Option.{none, some}
 use lib.Dec.{T}
 use lib.ListN.{length, take, drop, take-append-drop}
 use lib.Seq.{drop-drop}
-use Rattle.words.specs.Base.{if◌then◌else◌, same}
+use Rattle.words.specs.Base.{same}
 use Rattle.words.specs.Text.{text_words}
 use Rattle.words.proofs.TestParts.{same-eq}
 use Rattle.library.specs.Library.{Card, Library, DeckLine, not_deck, bad_deck, deck_of, deck_line, history, deck_names}

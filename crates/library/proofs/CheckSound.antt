@@ -1,4 +1,5 @@
 -- The library of an accepted image is sound.
+use Rattle.std.specs.Prelude.{if◌then◌else◌}
 use Prim.Native.Nat.{ℕ, suc, ◌≤◌}
 use native.Mathlib.Omega.{arith}
 use mathlib.Core.Path.{◌≡◌, refl, ap, ◌∙◌, subst}
@@ -6,7 +7,6 @@ use mathlib.Core.List.{List, [], ◌∷◌, map}
 use mathlib.Core.Option.{none}
 use lib.Dec.{T, eqb, eqb→eq, eqb_refl, le→leb}
 use lib.ListN.{length, drop, length-map}
-use Rattle.words.specs.Base.{if◌then◌else◌}
 use Rattle.library.specs.Each.{Each}
 use Rattle.library.specs.Library.{Card, Deck, Library, DeckLine, not_deck, bad_deck, deck_of, deck_line, history, stream, deck_names, name_at}
 use Rattle.library.specs.Image.{encode, short_history, limit_tests, within_limits}

@@ -1,4 +1,5 @@
 -- The directory by name and by number: each name stands at its number, and has no other.
+use Rattle.std.specs.Prelude.{if◌then◌else◌}
 use Prim.Native.Nat.{ℕ, zero, suc, ◌+◌, ◌-◌, ◌≤◌, ◌<◌}
 use native.Mathlib.Omega.{arith}
 use mathlib.Core.Path.{◌≡◌, refl, sym, ap, ◌∙◌, subst}
@@ -7,7 +8,7 @@ use mathlib.Core.List.{List, [], ◌∷◌}
 use borrow.Author.Tests.{eq-eqb, ne_eqb}
 use lib.Dec.{T, eqb, eqb→eq, eqb_refl, ltb→lt, leb→le, T_not}
 use lib.ListN.{length, get_or}
-use Rattle.words.specs.Base.{if◌then◌else◌, any, member}
+use Rattle.words.specs.Base.{any, member}
 use Rattle.words.specs.Names.{is_name, name_of, is_name_word}
 use Rattle.words.proofs.TestParts.{and_both}
 use Rattle.library.specs.Library.{purged, name_at, entry_from, entry_of}

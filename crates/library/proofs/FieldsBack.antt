@@ -1,4 +1,5 @@
 -- The words ahead of a card's text give back what they were written from: where they end, and each field.
+use Rattle.std.specs.Prelude.{if◌then◌else◌}
 use Prim.Native.Nat.{ℕ, zero, suc, ◌+◌, ◌*◌, ◌/◌, ◌%◌, ◌^◌, ◌≤◌, ◌<◌}
 use native.Mathlib.Omega.{arith}
 use mathlib.Core.Path.{◌≡◌, refl, ap, ◌∙◌}
@@ -9,7 +10,7 @@ use borrow.Author.Tests.{le-leb, lt-leb, ne_eqb}
 use lib.Dec.{T, eqb}
 use lib.ListN.{length, replicate, take, drop}
 use lib.Seq.{take_at, drop_at}
-use Rattle.words.specs.Base.{if◌then◌else◌, place_from, is_nil}
+use Rattle.words.specs.Base.{place_from, is_nil}
 use Rattle.library.specs.Each.{Each}
 use Rattle.library.specs.Image.{bit, further_words, head_words}
 use Rattle.library.specs.Check.{is_last_word, threes, raw_bytes, used, Fields, fields_of}

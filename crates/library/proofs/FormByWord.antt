@@ -4,6 +4,7 @@
 --   further-read            further history words that pass are written so
 --   further-written         and those that are written so pass
 --   form-words              row 5 of a card is `word_tests`; form-met, form-spare
+use Rattle.std.specs.Prelude.{if◌then◌else◌}
 use Prim.Native.Nat.{ℕ, zero, suc, ◌+◌, ◌-◌, ◌*◌, ◌/◌, ◌%◌, ◌^◌, ◌≤◌, ◌<◌, min}
 use native.Mathlib.Omega.{arith}
 use mathlib.Core.Path.{◌≡◌, refl, sym, ap, ap₂, ◌∙◌, subst}
@@ -14,7 +15,7 @@ use lib.Dec.{eqb, ltb, leb}
 use lib.ListN.{length, get_or, take, drop, length-take, length-drop}
 use lib.Seq.{length-take-le}
 use borrow.Author.Tests.{eq-eqb, ne_eqb, eqb-true, le-leb, leb-true, leb-false, not-true}
-use Rattle.words.specs.Base.{if◌then◌else◌, all, all_of, same, is_nil, place_from}
+use Rattle.words.specs.Base.{all, all_of, same, is_nil, place_from}
 use Rattle.words.proofs.TestParts.{T-true, true-T, same-eq, same_refl}
 use Rattle.library.specs.Image.{bit, further_words, head_words}
 use Rattle.library.specs.Check.{is_last_word, threes, used, rising, ok_byte, first_activates, Fields, fields_of, form_tests, ok_form}

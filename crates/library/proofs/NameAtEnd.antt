@@ -1,4 +1,5 @@
 -- With a new name at a directory's end its numbers and names stay, and what is sound stays sound.
+use Rattle.std.specs.Prelude.{if◌then◌else◌}
 use Prim.Native.Nat.{ℕ, zero, suc, ◌+◌, ◌-◌, ◌≤◌, ◌<◌}
 use native.Mathlib.Omega.{arith}
 use mathlib.Core.Path.{◌≡◌, refl, sym, ap, ap₂, ◌∙◌, subst}
@@ -8,7 +9,7 @@ use lib.Dec.{T, eqb, eqb→eq, eqb_refl, ltb, lt→ltb, le→leb, ltb→lt, T_no
 use lib.ListN.{length, length-append, get_or-append}
 use lib.Seq.{get_or-append_seam}
 use Rattle.library.proofs.TableRows.{same-name-turn}
-use Rattle.words.specs.Base.{if◌then◌else◌, all, member}
+use Rattle.words.specs.Base.{all, member}
 use Rattle.words.specs.Names.{is_name_word}
 use Rattle.words.proofs.TestParts.{and_both, all_append}
 use Rattle.words_lines.specs.Directive.{directive}

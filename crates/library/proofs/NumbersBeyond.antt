@@ -1,6 +1,7 @@
 -- In a directory that follows another a name that the first lacks has its number raised by the first's count.
 --   from-beyond, entry-beyond    names
 --   name-beyond, named-beyond    numbers
+use Rattle.std.specs.Prelude.{if◌then◌else◌}
 use Prim.Native.Nat.{ℕ, suc, ◌+◌, ◌-◌, ◌≤◌, ◌<◌}
 use native.Mathlib.Omega.{arith}
 use mathlib.Core.Path.{◌≡◌, refl, sym, ap, ◌∙◌, subst}
@@ -9,7 +10,7 @@ use mathlib.Core.List.{List, [], ◌∷◌, ◌++◌}
 use lib.Dec.{T, eqb, lt→ltb, le→leb}
 use lib.ListN.{length, get_or, length-append}
 use lib.Seq.{get_or-append-add}
-use Rattle.words.specs.Base.{if◌then◌else◌, member}
+use Rattle.words.specs.Base.{member}
 use Rattle.library.specs.Library.{name_at, entry_from, entry_of, purged}
 use Rattle.library.specs.Sound.{number_tests, is_entry}
 use Rattle.library.proofs.EachTest.{each-all_of}

@@ -1,4 +1,5 @@
 -- The yank rule has one solution: what `settled` computes solves it, and any two solutions agree.
+use Rattle.std.specs.Prelude.{if◌then◌else◌}
 use Prim.Native.Nat.{ℕ, zero, suc, ◌+◌, ◌-◌, ◌≤◌, ◌<◌}
 use native.Mathlib.Omega.{arith}
 use native.Mathlib.Nat.{add-zero, add-suc}
@@ -8,7 +9,7 @@ use mathlib.Core.Bool.{Bool, true, false, ◌&&◌, ◌||◌}
 use mathlib.Core.List.{List, [], ◌∷◌}
 use lib.Dec.{T}
 use borrow.Author.Tests.{eq-eqb, ne_eqb}
-use Rattle.words.specs.Base.{if◌then◌else◌, any, member}
+use Rattle.words.specs.Base.{any, member}
 use Rattle.library.specs.Each.{Each}
 use Rattle.library.specs.Library.{Byte}
 use Rattle.library.specs.Yanks.{Yank, last_says, covers, yanked_by, Solves, settled}

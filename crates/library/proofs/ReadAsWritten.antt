@@ -1,4 +1,5 @@
 -- Cards that rows 5 and 6 read are written in the words that were read, of sound form and not too many.
+use Rattle.std.specs.Prelude.{if◌then◌else◌}
 use Prim.Native.Nat.{ℕ, zero, suc, ◌+◌, ◌/◌, ◌%◌, ◌^◌, ◌≤◌, ◌<◌}
 use native.Mathlib.Omega.{arith}
 use mathlib.Core.Path.{◌≡◌, refl, sym, ap, ◌∙◌, subst}
@@ -8,7 +9,7 @@ use mathlib.Core.Option.{Option, none, some}
 use lib.Dec.{T, eqb, eqb→eq, leb, ltb→lt, leb→le, lt→ltb}
 use lib.ListN.{length, get_or, take, drop, length-map, take-append-drop}
 use lib.Seq.{drop-drop}
-use Rattle.words.specs.Base.{if◌then◌else◌, all, same, place_from}
+use Rattle.words.specs.Base.{all, same, place_from}
 use Rattle.words.specs.Display.{in_chart}
 use Rattle.words.specs.Text.{trim, text_words, says, is_text}
 use Rattle.words.proofs.TestParts.{true-T, and_both, same-eq, same_refl}

@@ -1,4 +1,5 @@
 -- Sound cards, written in words, are read back by rows 5 and 6.
+use Rattle.std.specs.Prelude.{if◌then◌else◌}
 use Prim.Native.Nat.{ℕ, zero, suc, ◌+◌, ◌/◌, ◌%◌, ◌^◌, ◌≤◌, ◌<◌}
 use native.Mathlib.Omega.{arith}
 use mathlib.Core.Path.{◌≡◌, refl, sym, ap, ◌∙◌, subst}
@@ -8,7 +9,7 @@ use mathlib.Core.Option.{Option}
 use lib.Dec.{T, eqb, eqb_refl, leb, leb→le, le→leb, lt→ltb}
 use lib.ListN.{length, get_or, drop, length-map, length-append}
 use lib.Seq.{drop_at}
-use Rattle.words.specs.Base.{if◌then◌else◌, all, same, place_from}
+use Rattle.words.specs.Base.{all, same, place_from}
 use Rattle.words.specs.Display.{in_chart}
 use Rattle.words.specs.Text.{trim, text_words, says, is_text}
 use Rattle.words.proofs.TestParts.{T-true, and_both, same-eq, same_refl}

@@ -1,6 +1,7 @@
 -- After sets are taken back each lower number is yanked where it was, and those sets are yanked everywhere.
 -- where it was, and those sets are yanked everywhere; so old cards are as active as they were, and cards of those sets are inactive.
 -- It goes over whatever a card of YANK$$$ acts on (Target, covers).
+use Rattle.std.specs.Prelude.{if◌then◌else◌}
 use Prim.Native.Nat.{ℕ, suc, ◌≤◌, ◌<◌}
 use native.Mathlib.Omega.{arith}
 use native.Mathlib.Decide.{dec_le}
@@ -9,7 +10,7 @@ use mathlib.Core.Bool.{Bool, true, false, ◌&&◌, ◌||◌}
 use mathlib.Core.List.{List, [], ◌∷◌, ◌++◌, map}
 use lib.Dec.{T}
 use Rattle.words.proofs.TestParts.{or-true, or-false, and-true, and-false}
-use Rattle.words.specs.Base.{if◌then◌else◌, any, member}
+use Rattle.words.specs.Base.{any, member}
 use Rattle.library.specs.Each.{Each}
 use Rattle.library.specs.Library.{Byte, Card, history}
 use Rattle.library.specs.Yanks.{last_says, Target, covers, targets, Yank, yanked_by, Solves, settled}

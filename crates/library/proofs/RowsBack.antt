@@ -1,11 +1,12 @@
 -- The cards of a sound library, stored one after another, part into that library and pass rows 7 to 10.
+use Rattle.std.specs.Prelude.{if◌then◌else◌}
 use Prim.Native.Nat.{ℕ}
 use mathlib.Core.Path.{◌≡◌, refl, ap, ◌∙◌}
 use mathlib.Core.Bool.{Bool, true, false, ◌&&◌, beq}
 use mathlib.Core.List.{List, [], ◌∷◌, ◌++◌, map, append-nil}
 use mathlib.Core.Option.{Option, none, some}
 use lib.Dec.{T, eqb, eqb_refl}
-use Rattle.words.specs.Base.{if◌then◌else◌, same}
+use Rattle.words.specs.Base.{same}
 use Rattle.words.proofs.TestParts.{T-true, and_both, same_refl}
 use Rattle.library.specs.Each.{Each}
 use Rattle.library.specs.Library.{Card, Deck, Library, deck_card, history, name_at, entry_of, deck_names}

@@ -1,4 +1,5 @@
 -- Rows 1 to 4 that find no fault, as facts on the directory and the deck list, both ways.
+use Rattle.std.specs.Prelude.{if◌then◌else◌}
 use Prim.Native.Nat.{ℕ, suc}
 use native.Mathlib.Omega.{arith}
 use mathlib.Core.Path.{◌≡◌, refl, sym, ap, ◌∙◌, subst}
@@ -6,7 +7,7 @@ use mathlib.Core.Bool.{Bool, true, false, ◌&&◌, ◌||◌, not}
 use mathlib.Core.List.{List, [], ◌∷◌}
 use mathlib.Core.Option.{Option, none, some}
 use lib.Dec.{T, eqb, eqb→eq}
-use Rattle.words.specs.Base.{if◌then◌else◌, any, all, member, is_nil, place_from}
+use Rattle.words.specs.Base.{any, all, member, is_nil, place_from}
 use Rattle.words.specs.Names.{is_name_word}
 use Rattle.words.proofs.TestParts.{and_both, eqb-turn}
 use Rattle.library.specs.Each.{Each}

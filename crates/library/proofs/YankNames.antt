@@ -1,12 +1,13 @@
 -- The names of a YANK line are names.
 --   yank-named
+use Rattle.std.specs.Prelude.{if◌then◌else◌}
 use Prim.Native.Nat.{ℕ}
 use mathlib.Core.Path.{◌≡◌, subst}
 use mathlib.Core.Bool.{Bool, true, false, not}
 use mathlib.Core.List.{List}
 use lib.Dec.{T, ltb}
 use lib.ListN.{length}
-use Rattle.words.specs.Base.{if◌then◌else◌, all}
+use Rattle.words.specs.Base.{all}
 use Rattle.words.specs.Display.{in_chart}
 use Rattle.words.specs.Names.{is_name, name_word, is_name_word}
 use Rattle.words.proofs.TestParts.{T-true, true-T}

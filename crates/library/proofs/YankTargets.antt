@@ -1,5 +1,6 @@
 -- What the cards of YANK$$$ in a sound library act on stays the same whatever names come after.
 -- This is where the kinds of target are told apart.
+use Rattle.std.specs.Prelude.{if◌then◌else◌}
 use Prim.Native.Nat.{ℕ, ◌+◌, ◌≤◌, ◌<◌}
 use native.Mathlib.Omega.{arith}
 use mathlib.Core.Path.{◌≡◌, refl, sym, ap, ap₂, ◌∙◌, subst}
@@ -7,7 +8,7 @@ use mathlib.Core.Bool.{Bool, true, false, ◌&&◌, not}
 use mathlib.Core.List.{List, [], ◌∷◌, ◌++◌, map}
 use lib.Dec.{T, eqb, ltb, eqb→eq, ltb→lt}
 use lib.ListN.{length}
-use Rattle.words.specs.Base.{if◌then◌else◌, all, member}
+use Rattle.words.specs.Base.{all, member}
 use Rattle.words.proofs.TestParts.{and_left, and_right}
 use Rattle.words_lines.specs.Directive.{directive, yank_names}
 use Rattle.library.specs.Each.{Each}

@@ -2,8 +2,7 @@
 --   further_len   further history words: up to and with the last, or to the end
 --   card_len      a card's words
 --   cards_by      each card by a function
-use Rattle.std.specs.Prelude.{ℕ, zero, suc, ◌+◌, ◌/◌, ◌%◌, ◌^◌, List, [], ◌∷◌, ◌++◌, take, drop}
-use Rattle.words.specs.Base.{if◌then◌else◌}
+use Rattle.std.specs.Prelude.{ℕ, zero, suc, ◌+◌, ◌/◌, ◌%◌, ◌^◌, List, [], ◌∷◌, ◌++◌, take, drop, if◌then◌else◌}
 use Rattle.library.specs.Check.{is_last_word}
 
 unfoldable pub further_len : List ℕ → ℕ

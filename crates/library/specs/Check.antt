@@ -5,10 +5,10 @@
 --   rows 5 and 6       Stored, is_last_word, threes, raw_bytes, used, byte_of, Fields, fields_of, card_of, rising, ok_byte, first_activates, form_tests, ok_form, Cards, also, stored_of, read_card, read_cards
 --   rows over cards    is_deck_line, is_deck_card, ok_deck_card, row7, first_failing, ahead_of_decks, ok_target, ok_yank, row8, shares_both, row10_from, row10, ok_bits, row9_from, row9
 --   the check          Parted, part_at, parted_by, library_of, check_cards, check
-use Rattle.std.specs.Prelude.{ℕ, zero, suc, ◌+◌, ◌/◌, ◌%◌, ◌^◌, Bool, true, false, ◌&&◌, ◌||◌, not, List, [], ◌∷◌, map, eqb, ltb, leb, length, get_or, take, drop}
+use Rattle.std.specs.Prelude.{ℕ, zero, suc, ◌+◌, ◌/◌, ◌%◌, ◌^◌, Bool, true, false, ◌&&◌, ◌||◌, not, List, [], ◌∷◌, map, eqb, ltb, leb, length, get_or, take, drop, if◌then◌else◌}
 use Rattle.std.specs.Bool.{beq}
 use Rattle.std.proofs.Math.Option.{Option, none, some}
-use Rattle.words.specs.Base.{if◌then◌else◌, any, all, all_of, any_of, member, same, is_nil, place_from}
+use Rattle.words.specs.Base.{any, all, all_of, any_of, member, same, is_nil, place_from}
 use Rattle.words.specs.Base.{is_word}
 use Rattle.words.specs.Text.{says, is_text}
 use Rattle.words.specs.Names.{is_name_word}

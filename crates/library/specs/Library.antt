@@ -6,9 +6,9 @@
 --   of the directory                   reserved, purged, name_at, has_name, entry_from, entry_of
 --   of a line                          DeckLine, is_deck_kind, deck_asked, deck_line
 -- Yank and activity bits are not here: they follow from the histories (Yanks.antt), and the image has them (Image.antt).
-use Rattle.std.specs.Prelude.{ℕ, zero, suc, Bool, true, false, ◌&&◌, not, List, [], ◌∷◌, ◌++◌, map, eqb, get_or}
+use Rattle.std.specs.Prelude.{ℕ, zero, suc, Bool, true, false, ◌&&◌, not, List, [], ◌∷◌, ◌++◌, map, eqb, get_or, if◌then◌else◌}
 use Rattle.words.specs.Display.{codes, codes_word}
-use Rattle.words.specs.Base.{if◌then◌else◌, member}
+use Rattle.words.specs.Base.{member}
 use Rattle.words_lines.specs.Directive.{directive, kind_of_line}
 use Rattle.words_lines.specs.declared.Kind.{Kind}
 use Rattle.words_lines.specs.declared.Kind.TheVariants.{Text as k_text, Skipped as k_skipped, NotCarried as k_not_carried, Deck as k_deck, Comdeck as k_comdeck, Ident as k_ident, Insert as k_insert, Before as k_before, Delete as k_delete, Restore as k_restore, Yank as k_yank}

@@ -4,10 +4,10 @@
 --   a card's words         first_tests, word_tests
 --   the promise            FormByWord
 --   it is met, none spare  two_words, FormMet, form_differs, over_word, ended_twice, is_place, FormSpare
-use Rattle.std.specs.Prelude.{ℕ, ◌+◌, ◌-◌, ◌*◌, ◌/◌, ◌%◌, ◌^◌, ◌<◌, ◌≡◌, Bool, true, false, ◌&&◌, not, List, [], ◌∷◌, T, eqb, ltb, leb, length, get_or, take, drop}
+use Rattle.std.specs.Prelude.{ℕ, ◌+◌, ◌-◌, ◌*◌, ◌/◌, ◌%◌, ◌^◌, ◌<◌, ◌≡◌, Bool, true, false, ◌&&◌, not, List, [], ◌∷◌, T, eqb, ltb, leb, length, get_or, take, drop, if◌then◌else◌}
 use Rattle.std.specs.Bool.{beq}
 use Rattle.std.proofs.Math.Option.{Option, none, some}
-use Rattle.words.specs.Base.{if◌then◌else◌, all, all_of, is_nil, is_word, place_from}
+use Rattle.words.specs.Base.{all, all_of, is_nil, is_word, place_from}
 use Rattle.library.specs.Check.{is_last_word, used, ok_byte, fields_of, ok_form}
 
 -- a byte's number is not below n, and is that of an entry that is not purged

@@ -3,8 +3,8 @@
 --   what a YANK card acts on   Target, covers, is_yank, targets
 --   the rule                   Yank, yanks_of, yanked_by, Solves
 --   its solution               settled, settled_yanks, yanked
-use Rattle.std.specs.Prelude.{ℕ, zero, suc, ◌-◌, ◌≡◌, Bool, true, false, ◌&&◌, List, [], ◌∷◌, map, eqb, length}
-use Rattle.words.specs.Base.{if◌then◌else◌, any, member}
+use Rattle.std.specs.Prelude.{ℕ, zero, suc, ◌-◌, ◌≡◌, Bool, true, false, ◌&&◌, List, [], ◌∷◌, map, eqb, length, if◌then◌else◌}
+use Rattle.words.specs.Base.{any, member}
 use Rattle.words_lines.specs.Directive.{directive, yank_names}
 use Rattle.words_lines.specs.declared.Line.{Line}
 use Rattle.words_lines.specs.declared.Line.TheVariants.{Text, Skipped, Deck as DeckLine·, Comdeck, Ident, Insert, Before, Delete, Restore, Yank as YankLine, Outside, Long, Malformed, NotCarried}

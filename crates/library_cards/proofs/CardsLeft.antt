@@ -3,6 +3,7 @@
 --   cards-..           the answer from a place on
 --   Ended, ended       a text that passes, and the next card
 --   turn-..            the answer after n cards
+use Rattle.std.specs.Prelude.{if◌then◌else◌}
 use Prim.Native.Nat.{ℕ, zero, suc, ◌+◌, ◌-◌, ◌/◌, ◌%◌, ◌^◌, ◌≤◌, ◌<◌}
 use native.Mathlib.Omega.{arith}
 use mathlib.Core.Path.{◌≡◌, refl, sym, ap, ◌∙◌}
@@ -11,7 +12,7 @@ use mathlib.Core.List.{List, []}
 use mathlib.Core.Option.{Option, none, some}
 use lib.ListN.{length, get_or, take, drop, drop_of_length-le}
 use lib.Seq.{drop-cons, drop-drop}
-use Rattle.words.specs.Base.{if◌then◌else◌, place_from}
+use Rattle.words.specs.Base.{place_from}
 use Rattle.words.specs.Text.{is_text}
 use Rattle.library.specs.declared.Fault.TheVariants.{Form, Text}
 use Rattle.library.specs.declared.Found.TheVariants.{At, Nothing}

@@ -6,6 +6,7 @@
 --   words-..       a card with so many words ahead of its text
 --   single-..      one whose first word has bit 59
 --   text-..        where the text starts of a card that passes row 5
+use Rattle.std.specs.Prelude.{if◌then◌else◌}
 use Prim.Native.Nat.{ℕ, zero, suc, ◌+◌, ◌-◌, ◌/◌, ◌%◌, ◌^◌, ◌≤◌, ◌<◌}
 use native.Mathlib.Omega.{arith}
 use native.Mathlib.Numerals.{add-one}
@@ -18,7 +19,7 @@ use lib.ListN.{length, get_or, take, drop, length-drop, drop_of_length-le}
 use lib.Seq.{drop-cons, get_or-drop}
 use borrow.Author.Tests.{eq-eqb, ne_eqb, le-leb, lt-leb, leb-true}
 use Rattle.words.proofs.TestParts.{and-true, and-false}
-use Rattle.words.specs.Base.{if◌then◌else◌, all_of, is_nil, place_from}
+use Rattle.words.specs.Base.{all_of, is_nil, place_from}
 use Rattle.library.specs.Library.{purged}
 use Rattle.library.specs.Check.{is_last_word, used, ok_byte}
 use Rattle.library.specs.declared.Found.TheVariants.{At, Nothing}

@@ -2,9 +2,9 @@
 --   answers              cards_read, cards_answer, answer_from
 --   reading a card       text_if, text_found, text_count, end_at
 --   rows 1 to 6          after_tables, first_rows
-use Rattle.std.specs.Prelude.{ℕ, ◌+◌, ◌/◌, ◌%◌, ◌^◌, List, get_or, take, drop}
+use Rattle.std.specs.Prelude.{ℕ, ◌+◌, ◌/◌, ◌%◌, ◌^◌, List, get_or, take, drop, if◌then◌else◌}
 use Rattle.std.proofs.Math.Option.{Option, none, some}
-use Rattle.words.specs.Base.{if◌then◌else◌, place_from}
+use Rattle.words.specs.Base.{place_from}
 use Rattle.words.specs.Text.{is_text}
 use Rattle.library.specs.Check.{Cards, cards, fault, read_cards, directory_of, cards_place, is_last_word, fields_of, ok_form, row1, row2, row3, row4}
 use Rattle.library.specs.declared.Found.{Found}

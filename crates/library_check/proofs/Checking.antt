@@ -6,6 +6,7 @@
 --   row9-flags                    row 9 under flags
 --   row7-found, yank-at, twice-at, bit_at, none-at        the rows of the cards that were read
 --   first-refused, first-none, first-sound, after-rows     rows 1 to 6 ahead of them
+use Rattle.std.specs.Prelude.{if◌then◌else◌}
 use Prim.Native.Nat.{ℕ, ◌+◌, ◌-◌, ◌%◌, ◌^◌, ◌≤◌, ◌<◌}
 use native.Mathlib.Omega.{arith}
 use mathlib.Core.Path.{◌≡◌, refl, sym, ap, ap₂, ◌∙◌, subst}
@@ -16,7 +17,7 @@ use lib.Dec.{eqb, ltb, leb}
 use lib.ListN.{length, get_or, take, drop, length-take, length-drop}
 use borrow.Author.Tests.{eqb-true, ltb-true, leb-true}
 use Rattle.library_cards.proofs.TablesThenCards.{not_sound_lem}
-use Rattle.words.specs.Base.{if◌then◌else◌, any, all, member}
+use Rattle.words.specs.Base.{any, all, member}
 use Rattle.words.proofs.TestParts.{true-T, T-true}
 use Rattle.words_lines.specs.Directive.{directive}
 use Rattle.words_lines.proofs.NamesByWord.{and_left, and_right}

@@ -2,6 +2,7 @@
 --   walk-card            a card that was read stands there
 --   cut-walk             in a part of the words too
 --   cut_at               so do cards in a row
+use Rattle.std.specs.Prelude.{if◌then◌else◌}
 use Prim.Native.Nat.{ℕ, zero, suc, ◌+◌, ◌-◌, ◌/◌, ◌%◌, ◌^◌, ◌≤◌, ◌<◌}
 use native.Mathlib.Omega.{arith}
 use native.Mathlib.Nat.{add-zero}
@@ -12,7 +13,7 @@ use mathlib.Core.Option.{some}
 use lib.Dec.{eqb}
 use lib.ListN.{length, get_or, take, drop, length-take, length-drop}
 use lib.Seq.{take-nil, drop-nil, take-take, drop-drop, get_or-take, get_or-drop}
-use Rattle.words.specs.Base.{if◌then◌else◌, place_from}
+use Rattle.words.specs.Base.{place_from}
 use Rattle.words.specs.Text.{is_text}
 use Rattle.library.specs.Check.{Stored, Fields, fields_of, stored_of, card_of, is_last_word, raw_bytes, used, ok_form}
 use Rattle.library_yanks.specs.Bytes.{part, flagged}

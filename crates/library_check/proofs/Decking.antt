@@ -6,6 +6,7 @@
 --   failing-on, failing-here               a card that passes or fails
 --   row_on, row-taken, row_here            row 7
 --   names_more                             the deck list from a place on
+use Rattle.std.specs.Prelude.{if◌then◌else◌}
 use Prim.Native.Nat.{ℕ, ◌+◌, ◌≤◌, ◌<◌}
 use native.Mathlib.Numerals.{add-one}
 use mathlib.Core.Path.{◌≡◌, refl, sym, ap, ap₂, ◌∙◌, subst}
@@ -15,7 +16,7 @@ use mathlib.Core.Option.{Option, some}
 use lib.Dec.{eqb}
 use lib.ListN.{length, get_or, drop}
 use lib.Seq.{drop-cons}
-use Rattle.words.specs.Base.{if◌then◌else◌, is_nil}
+use Rattle.words.specs.Base.{is_nil}
 use Rattle.library.specs.Library.{DeckLine, not_deck, bad_deck, deck_of, deck_line, entry_of}
 use Rattle.library.specs.Check.{Stored, is_deck_line, is_deck_card, ok_deck_card, row7, first_failing, ahead_of_decks}
 use Rattle.library_image.specs.Places.{seen_at, line_in}

@@ -3,6 +3,7 @@
 --   Listing, list-..                         the keys of the cards, one after another
 --   Placing, place-..                        a card by how many are ahead of it
 --   twice-none, twice-at                     row 10 by the first key that stands twice
+use Rattle.std.specs.Prelude.{if◌then◌else◌}
 use Prim.Native.Nat.{ℕ, suc, ◌+◌, ◌-◌, ◌*◌, ◌/◌, ◌%◌, ◌^◌, ◌≤◌, ◌<◌}
 use native.Mathlib.Omega.{arith}
 use native.Mathlib.Nat.{add-zero}
@@ -15,7 +16,7 @@ use lib.Dec.{eqb}
 use lib.ListN.{length, get_or, take, drop, set, length-append, length-map, length-drop, drop_of_length-le}
 use lib.Seq.{take_all, take-suc-set, length-take-le, drop-cons, get_or-drop}
 use borrow.Author.Tests.{eq-eqb, ne_eqb, eqb-true, eqb-false}
-use Rattle.words.specs.Base.{if◌then◌else◌, any, member, is_nil}
+use Rattle.words.specs.Base.{any, member, is_nil}
 use Rattle.library_index_twice.specs.Twice.{twice_from, first_twice}
 use Rattle.library.specs.Each.{Each}
 use Rattle.library.specs.Check.{Stored, raw_bytes, threes, used, shares_both, row10_from, row10}

@@ -3,6 +3,7 @@
 --   name-none, name-high, name-lower, param-told    a name that may be yanked
 --   yank-field, yank-same, yank-line-not            a line of names
 --   shown-yank                          a card that was read
+use Rattle.std.specs.Prelude.{if◌then◌else◌}
 use Prim.Native.Nat.{ℕ, suc, ◌≤◌, ◌<◌}
 use native.Mathlib.Omega.{arith}
 use mathlib.Core.Path.{◌≡◌, refl, sym, ap, ap₂, ◌∙◌}
@@ -10,7 +11,7 @@ use mathlib.Core.Bool.{Bool, true, false, ◌&&◌, ◌||◌, not}
 use mathlib.Core.List.{List, [], ◌∷◌, map}
 use lib.Dec.{eqb, ltb}
 use borrow.Author.Tests.{ne_eqb, lt-ltb, le-ltb}
-use Rattle.words.specs.Base.{if◌then◌else◌, all, member}
+use Rattle.words.specs.Base.{all, member}
 use Rattle.words.specs.Spelt.{word_of_name}
 use Rattle.words_lines.specs.Directive.{directive, params, field}
 use Rattle.library.specs.Library.{name_at, entry_from, entry_of}

@@ -1,6 +1,7 @@
 -- What is seen of a card that was read is the card. Assumes nothing.
 --   seen-at                   what is seen at a place
 --   shown-..                  each thing that is seen
+use Rattle.std.specs.Prelude.{if◌then◌else◌}
 use Prim.Native.Nat.{ℕ, zero, suc, ◌+◌, ◌-◌, ◌/◌, ◌%◌, ◌^◌, ◌≤◌, ◌<◌}
 use native.Mathlib.Omega.{arith}
 use native.Mathlib.Decide.{dec_le}
@@ -12,7 +13,7 @@ use lib.Dec.{eqb}
 use lib.ListN.{length, get_or, take, drop, length-take}
 use lib.Seq.{drop-drop}
 use borrow.Author.Tests.{eq-eqb, ne_eqb, eqb-true, le-leb}
-use Rattle.words.specs.Base.{if◌then◌else◌, same, is_nil, place_from}
+use Rattle.words.specs.Base.{same, is_nil, place_from}
 use Rattle.words.specs.Text.{says, is_text}
 use Rattle.words_lines.proofs.NamesByWord.{and_right}
 use Rattle.library.specs.Image.{head_words}

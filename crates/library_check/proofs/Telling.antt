@@ -2,6 +2,7 @@
 --   all-used                     unused bytes
 --   history-raw                  the history is the stored bytes
 --   shown-active, shown-bits     a card's activity and bits, from its words
+use Rattle.std.specs.Prelude.{if◌then◌else◌}
 use Prim.Native.Nat.{ℕ, ◌+◌, ◌/◌, ◌%◌, ◌^◌, ◌≤◌, ◌<◌}
 use native.Mathlib.Omega.{arith}
 use mathlib.Core.Path.{◌≡◌, refl, sym, ap, ap₂, ◌∙◌}
@@ -10,7 +11,7 @@ use mathlib.Core.List.{List, [], ◌∷◌, map}
 use lib.Dec.{eqb, leb}
 use lib.ListN.{get_or, take, drop}
 use borrow.Author.Tests.{eq-eqb, ne_eqb, eqb-true, eqb-false, leb-true}
-use Rattle.words.specs.Base.{if◌then◌else◌, all, same, is_nil}
+use Rattle.words.specs.Base.{all, same, is_nil}
 use Rattle.words_lines.proofs.NamesByWord.{and_left, and_right}
 use Rattle.library.specs.Each.{Each}
 use Rattle.library.specs.Library.{Byte, history}

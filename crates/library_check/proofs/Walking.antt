@@ -1,5 +1,6 @@
 -- Cards that were read stand in the words one after another. Assumes nothing.
 --   read-walks          what `read_cards` reads, the words walk
+use Rattle.std.specs.Prelude.{if◌then◌else◌}
 use Prim.Native.Nat.{ℕ, zero, suc, ◌+◌, ◌/◌, ◌%◌, ◌^◌, ◌≤◌, ◌<◌}
 use native.Mathlib.Omega.{arith}
 use mathlib.Core.Path.{◌≡◌, refl, sym, ap, subst}
@@ -8,7 +9,7 @@ use mathlib.Core.List.{List, [], ◌∷◌}
 use mathlib.Core.Option.{Option, none, some}
 use lib.ListN.{length, get_or, drop, length-drop}
 use lib.Seq.{drop-drop}
-use Rattle.words.specs.Base.{if◌then◌else◌, place_from}
+use Rattle.words.specs.Base.{place_from}
 use Rattle.words.specs.Text.{is_text}
 use Rattle.library_check.specs.Walks.{Walks}
 use Rattle.library.specs.declared.Fault.TheVariants.{Form, Text}

@@ -1,8 +1,7 @@
 -- MEANING. The fresh library (RULES, "Fresh library"; row 32).
 --   its words in a space    freshing, begun_into, fresh_into
 --   the table's numbers     begun_number, begun_value
-use Rattle.std.specs.Prelude.{ℕ, List, ◌++◌, ltb, length, drop}
-use Rattle.words.specs.Base.{if◌then◌else◌}
+use Rattle.std.specs.Prelude.{ℕ, List, ◌++◌, ltb, length, drop, if◌then◌else◌}
 use Rattle.library.specs.Library.{fresh}
 use Rattle.library.specs.Image.{encode}
 use Rattle.library_fresh.specs.declared.Begun.{Begun}

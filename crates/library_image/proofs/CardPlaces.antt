@@ -2,6 +2,7 @@
 --   text_at_lem, text-beyond, text-here, text-on   where a card's text starts
 --   line-unread, line-short, line_read, line-no-text, line_taken   a line in its columns
 --   places-more, places-end           the cards from a place on
+use Rattle.std.specs.Prelude.{if◌then◌else◌}
 use Prim.Native.Nat.{ℕ, zero, suc, ◌+◌, ◌-◌, ◌/◌, ◌%◌, ◌^◌, ◌≤◌, ◌<◌}
 use native.Mathlib.Omega.{arith}
 use native.Mathlib.Numerals.{add-one}
@@ -12,7 +13,6 @@ use borrow.Author.Tests.{lt-ltb, le-ltb, le-leb, lt-leb, ltb-true, ltb-false}
 use lib.Dec.{ltb, leb, leb→le}
 use lib.ListN.{length, get_or, take, drop, length-append, length-drop, drop_of_length-le}
 use lib.Seq.{drop-cons, take_at}
-use Rattle.words.specs.Base.{if◌then◌else◌}
 use Rattle.words.specs.Text.{says, is_text, text_words, words_of}
 use Rattle.words_text_expand.specs.Answers.{expanding, expand_into}
 use Rattle.words_text_expand.specs.declared.Expanded.TheVariants.{Columns, NoText}

@@ -2,6 +2,7 @@
 --   inside, next-is, after, some_words                     its words
 --   owner-is, seq-is, active-is, line-is                   what is seen of it
 --   low, raw-is                                            its bytes
+use Rattle.std.specs.Prelude.{if◌then◌else◌}
 use Prim.Native.Nat.{ℕ, suc, ◌+◌, ◌-◌, ◌*◌, ◌/◌, ◌%◌, ◌^◌, ◌≤◌, ◌<◌}
 use native.Mathlib.Omega.{arith}
 use native.Mathlib.Nat.{add-zero}
@@ -13,7 +14,7 @@ use borrow.Author.Tests.{le-leb}
 use lib.Dec.{eqb}
 use lib.ListN.{length, get_or, take, drop, length-append, length-drop}
 use lib.Seq.{take_at, drop_at, drop-drop, get_or-drop}
-use Rattle.words.specs.Base.{if◌then◌else◌, place_from, is_nil}
+use Rattle.words.specs.Base.{place_from, is_nil}
 use Rattle.words.specs.Text.{text_words, says}
 use Rattle.words.proofs.TextTrip.{says-written, written-is-text, written-fits}
 use Rattle.library.specs.Each.{Each}

@@ -1,5 +1,6 @@
 -- A line whose first word has another code first does not begin with a star. Assumes nothing.
 --   line-starless     a line whose first word has another code first does not
+use Rattle.std.specs.Prelude.{if◌then◌else◌}
 use Prim.Native.Nat.{ℕ, zero, suc, ◌+◌, ◌-◌, ◌/◌, ◌%◌, ◌^◌, ◌<◌}
 use native.Mathlib.Omega.{arith}
 use mathlib.Core.Path.{◌≡◌, refl, sym, ap, ◌∙◌}
@@ -9,7 +10,6 @@ use borrow.Author.Tests.{eqb-false, ne_eqb}
 use lib.Dec.{eqb, leb}
 use lib.ListN.{length, get_or, take, drop}
 use Rattle.library.proofs.CardWithin.{first-at}
-use Rattle.words.specs.Base.{if◌then◌else◌}
 use Rattle.words.specs.Display.{code_of, letter, star}
 use Rattle.words.specs.Text.{low_codes, all_codes, columns_of, says, is_text}
 use Rattle.words.proofs.ChartBothWays.{code-letter}

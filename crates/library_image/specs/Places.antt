@@ -2,8 +2,7 @@
 --   a card          text_from, text_at, next_at, seen_at
 --   its line        text_of, line_in, line_into, star_at
 --   cards in order  places_from, places_in
-use Rattle.std.specs.Prelude.{ℕ, zero, suc, ◌+◌, ◌-◌, ◌/◌, ◌%◌, ◌^◌, Bool, List, [], ◌∷◌, ◌++◌, eqb, ltb, leb, length, get_or, take, drop}
-use Rattle.words.specs.Base.{if◌then◌else◌}
+use Rattle.std.specs.Prelude.{ℕ, zero, suc, ◌+◌, ◌-◌, ◌/◌, ◌%◌, ◌^◌, Bool, List, [], ◌∷◌, ◌++◌, eqb, ltb, leb, length, get_or, take, drop, if◌then◌else◌}
 use Rattle.words.specs.Text.{says, is_text}
 use Rattle.library.specs.Check.{is_last_word}
 use Rattle.library.specs.declared.Seen.{Seen}

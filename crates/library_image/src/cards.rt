@@ -1,6 +1,5 @@
 // Cards as they stand in an image (RULES, "Cards").
-ghost use Rattle.std.specs.Prelude.{◌≡◌, ◌+◌, ◌≤◌, ◌<◌, leb, length, get_or};
-ghost use Rattle.words.specs.Base.{if◌then◌else◌};
+ghost use Rattle.std.specs.Prelude.{◌≡◌, ◌+◌, ◌≤◌, ◌<◌, leb, length, get_or, if◌then◌else◌};
 ghost use Rattle.library_image.specs.Places.{text_at, seen_at, star_at, line_in, line_into};
 
 use library::{ACTIVE, FIELD, LAST, NUMBER, Seen, UPPER};

@@ -1,10 +1,10 @@
 -- A line is read as a deck card's by its kind. Assumes nothing.
 --   deck-kind, deck-no-kind
+use Rattle.std.specs.Prelude.{if◌then◌else◌}
 use Prim.Native.Nat.{ℕ}
 use mathlib.Core.Path.{◌≡◌, sym, ap}
 use mathlib.Core.Bool.{Bool, true, false}
 use mathlib.Core.List.{List}
-use Rattle.words.specs.Base.{if◌then◌else◌}
 use Rattle.words_lines.specs.Directive.{directive, kind_of_line}
 use Rattle.library.specs.Library.{not_deck, deck_line, deck_asked, is_deck_kind}
 

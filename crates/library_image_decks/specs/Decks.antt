@@ -1,8 +1,7 @@
 -- CODE. The decks of an image, by places, whatever its words are.
 --   a deck card    title_for, title_of, title_in, is_title, title_name, kind_number
 --   the decks      end_of, deck_end, row_of, rows_of, rows_in, table_of, table_into, Tables
-use Rattle.std.specs.Prelude.{ℕ, ◌≤◌, ◌≡◌, Bool, true, false, List, [], ◌∷◌, ◌++◌, length, take, drop}
-use Rattle.words.specs.Base.{if◌then◌else◌}
+use Rattle.std.specs.Prelude.{ℕ, ◌≤◌, ◌≡◌, Bool, true, false, List, [], ◌∷◌, ◌++◌, length, take, drop, if◌then◌else◌}
 use Rattle.library.specs.Library.{DeckLine, not_deck, bad_deck, deck_of, deck_line}
 use Rattle.library.specs.Check.{cards_place}
 use Rattle.library.specs.declared.Seen.{Seen}

@@ -5,6 +5,7 @@
 --   Tree, tree-none                the tree
 --   Seeking, seek-.., came         what the walk comes to in a tree
 --   tree-more, planted-entry       a planted tree knows every name
+use Rattle.std.specs.Prelude.{if◌then◌else◌}
 use Prim.Native.Nat.{ℕ, zero, suc, ◌+◌, ◌*◌, ◌/◌, ◌%◌, ◌≤◌, ◌<◌}
 use native.Mathlib.Omega.{arith}
 use native.Mathlib.Numerals.{add-one}
@@ -16,7 +17,6 @@ use lib.Dec.{eqb, ltb, leb}
 use lib.ListN.{length, get_or, set, replicate, length-set, length-replicate}
 use lib.Seq.{get_or-set_same, get_or-set_other, set-get_or}
 use borrow.Author.Tests.{lt-ltb, le-ltb, le-leb, lt-leb, eq-eqb, ne_eqb, ltb-true, ltb-false, leb-true, leb-false, eqb-true, eqb-false}
-use Rattle.words.specs.Base.{if◌then◌else◌}
 use Rattle.library.specs.Library.{entry_from, entry_of}
 use Rattle.library_index_twice.specs.KeyTree.{way_of, Leads}
 use Rattle.library_index_twice.proofs.WaysKept.{Keeps, lead-on, leads-kept}

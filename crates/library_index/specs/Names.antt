@@ -4,8 +4,7 @@
 --   where its ways end    walked, entry_number, end_way
 --   the tree              led, grown, grown_to, planted
 --   a name's number       entry_by, Knows
-use Rattle.std.specs.Prelude.{ℕ, zero, suc, ◌+◌, ◌*◌, ◌/◌, ◌%◌, ◌^◌, ◌≡◌, List, eqb, ltb, leb, length, get_or, set}
-use Rattle.words.specs.Base.{if◌then◌else◌}
+use Rattle.std.specs.Prelude.{ℕ, zero, suc, ◌+◌, ◌*◌, ◌/◌, ◌%◌, ◌^◌, ◌≡◌, List, eqb, ltb, leb, length, get_or, set, if◌then◌else◌}
 use Rattle.library_index_twice.specs.KeyTree.{way_of}
 use Rattle.library.specs.Library.{entry_of}
 use Rattle.library_index.specs.declared.names.Walked.{Walked}

@@ -1,6 +1,7 @@
 -- Keys of which each comes to a slot that none ahead has marked are all different. Assumes nothing.
 --   slot_is, no-owner, no_slot           a key's slot
 --   Marking, mark-..                     the slots of the keys ahead are marked
+use Rattle.std.specs.Prelude.{if◌then◌else◌}
 use Prim.Native.Nat.{ℕ, ◌+◌, ◌/◌, ◌%◌, ◌^◌, ◌≤◌, ◌<◌}
 use native.Mathlib.Omega.{arith}
 use native.Mathlib.Decide.{dec_le}
@@ -11,7 +12,7 @@ use lib.Dec.{eqb, ltb}
 use lib.ListN.{length, get_or, set, length-set}
 use lib.Seq.{get_or-set_same, get_or-set_other}
 use borrow.Author.Tests.{eqb-true, eqb-false, lt-ltb, le-ltb}
-use Rattle.words.specs.Base.{if◌then◌else◌, member}
+use Rattle.words.specs.Base.{member}
 use Rattle.words_lists.specs.Ahead.{ahead_of}
 use Rattle.library_index_twice.specs.Twice.{first_twice}
 use Rattle.library_index_twice.specs.Slots.{slot_of}

@@ -1,6 +1,7 @@
 -- Keys one after another, each with those ahead of it: the first that stands twice is none of the first n. Assumes nothing.
 --   in-ahead, not-ahead      whether a key stands among the first n
 --   Until, until-..          the first that stands twice is none of the first n
+use Rattle.std.specs.Prelude.{if◌then◌else◌}
 use Prim.Native.Nat.{ℕ, zero, suc, ◌+◌, ◌≤◌, ◌<◌}
 use native.Mathlib.Omega.{arith}
 use native.Mathlib.Nat.{add-zero}
@@ -14,7 +15,7 @@ use lib.ListN.{length, get_or, drop, drop_of_length-le}
 use lib.Seq.{drop-cons}
 use borrow.Author.Tests.{eq-eqb, ne_eqb}
 use Rattle.words.proofs.TestParts.{or-true}
-use Rattle.words.specs.Base.{if◌then◌else◌, member}
+use Rattle.words.specs.Base.{member}
 use Rattle.words_lists.specs.Ahead.{ahead_of}
 use Rattle.library_index_twice.specs.Twice.{twice_from, first_twice}
 

@@ -1,7 +1,6 @@
 -- CODE. A slot for each key. The slots of an owner stand one after another from its start on, one for each number.
 --   a key's slot               has_slot, slot_of
-use Rattle.std.specs.Prelude.{ℕ, ◌+◌, ◌/◌, ◌%◌, ◌^◌, Bool, ◌&&◌, List, ltb, get_or}
-use Rattle.words.specs.Base.{if◌then◌else◌}
+use Rattle.std.specs.Prelude.{ℕ, ◌+◌, ◌/◌, ◌%◌, ◌^◌, Bool, ◌&&◌, List, ltb, get_or, if◌then◌else◌}
 
 -- A KEY'S SLOT, under where those of each owner start; 65,536 is none
 abbrev pub has_slot : List ℕ → ℕ → Bool

@@ -1,7 +1,7 @@
 -- CODE. The first key of a list that stands twice.
 --   twice_from, first_twice
-use Rattle.std.specs.Prelude.{ℕ, suc, List, [], ◌∷◌}
-use Rattle.words.specs.Base.{if◌then◌else◌, member}
+use Rattle.std.specs.Prelude.{ℕ, suc, List, [], ◌∷◌, if◌then◌else◌}
+use Rattle.words.specs.Base.{member}
 
 -- where the first key stands that is among those ahead of it; how many keys there are where none is
 abbrev pub twice_from : List ℕ → List ℕ → ℕ

@@ -1,11 +1,11 @@
 -- Raised words are as many as before, however many cards are allowed for, if there are enough.
+use Rattle.std.specs.Prelude.{if◌then◌else◌}
 use Prim.Native.Nat.{ℕ, zero, suc, ◌+◌, ◌-◌, ◌≤◌, ◌<◌}
 use native.Mathlib.Omega.{arith}
 use mathlib.Core.Path.{◌≡◌, refl, sym, ap, ◌∙◌}
 use mathlib.Core.Bool.{Bool, true, false}
 use mathlib.Core.List.{List, [], ◌∷◌, ◌++◌}
 use lib.ListN.{length, take, drop, length-drop, length-append, take-append-drop}
-use Rattle.words.specs.Base.{if◌then◌else◌}
 use Rattle.library.specs.Check.{is_last_word}
 use Rattle.library.specs.CardWords.{card_len, cards_by}
 use Rattle.library_raise.specs.Raised.{further_raised, card_raised, raised_words}

@@ -3,8 +3,7 @@
 --   further history words   further_raised
 --   a card                  own_raised, card_raised
 --   cards                   raised_words
-use Rattle.std.specs.Prelude.{ℕ, ◌+◌, ◌*◌, ◌/◌, ◌%◌, ◌^◌, List, [], ◌∷◌, eqb, length}
-use Rattle.words.specs.Base.{if◌then◌else◌}
+use Rattle.std.specs.Prelude.{ℕ, ◌+◌, ◌*◌, ◌/◌, ◌%◌, ◌^◌, List, [], ◌∷◌, eqb, length, if◌then◌else◌}
 use Rattle.library.specs.Check.{is_last_word}
 use Rattle.library.specs.CardWords.{cards_by}
 

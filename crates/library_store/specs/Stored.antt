@@ -1,8 +1,8 @@
 -- CODE. A library's words in a space (RULES, "Header", "Directory", "Deck list", "Cards").
 --   a library's words   library_words
 --   in a space          room_tests, has_room, library_into
-use Rattle.std.specs.Prelude.{ℕ, ◌+◌, ◌*◌, ◌^◌, Bool, List, [], ◌∷◌, ◌++◌, ltb, leb, length, drop}
-use Rattle.words.specs.Base.{if◌then◌else◌, all_of}
+use Rattle.std.specs.Prelude.{ℕ, ◌+◌, ◌*◌, ◌^◌, Bool, List, [], ◌∷◌, ◌++◌, ltb, leb, length, drop, if◌then◌else◌}
+use Rattle.words.specs.Base.{all_of}
 use Rattle.library.specs.Image.{header}
 
 -- the header, the counts of the two tables, then the directory, the deck list and the cards, which are given in two parts

@@ -1,4 +1,5 @@
 -- What rows 1 and 3 say where they pass, and row 3 as the tests of word 2 and the tables' end. Assumes nothing.
+use Rattle.std.specs.Prelude.{if◌then◌else◌}
 use Prim.Native.Nat.{ℕ, zero, suc, ◌^◌, ◌≤◌, ◌<◌}
 use native.Mathlib.Omega.{arith}
 use mathlib.Core.Path.{◌≡◌, refl, ap, ◌∙◌}
@@ -9,7 +10,7 @@ use lib.Dec.{ltb}
 use lib.ListN.{length, get_or}
 use borrow.Author.Tests.{lt-ltb, le-ltb, ltb-true, ltb-false, eqb-false}
 use Rattle.library.proofs.TableRows.{first-none}
-use Rattle.words.specs.Base.{if◌then◌else◌, any_of, is_word, place_from}
+use Rattle.words.specs.Base.{any_of, is_word, place_from}
 use Rattle.library.specs.Check.{first_of, fault_if, directory_count, deck_count, cards_place, table_faults, row1, row3}
 use Rattle.library.specs.declared.Found.TheVariants.{At, Nothing}
 use Rattle.library_tables.specs.Found.{found, not_word, count_faults, Sized, Tabled}

@@ -4,6 +4,7 @@
 --   entry-..                         a word of the directory, one law for each way out
 --   deck-..                          a word of the deck list, likewise
 --   row4-entry, row4-deck            row 4 of the parts that are lent
+use Rattle.std.specs.Prelude.{if◌then◌else◌}
 use Prim.Native.Nat.{ℕ, zero, suc, ◌+◌, ◌-◌, ◌≤◌, ◌<◌}
 use native.Mathlib.Omega.{arith}
 use native.Mathlib.Nat.{add-suc, add-zero}
@@ -17,7 +18,7 @@ use lib.ListN.{length, get_or, take, drop, drop_of_length-le}
 use lib.Seq.{drop-cons, take-suc}
 use borrow.Author.Tests.{eq-eqb, ne_eqb}
 use Rattle.words.proofs.TestParts.{and-false, and-true}
-use Rattle.words.specs.Base.{if◌then◌else◌, any, member, is_nil}
+use Rattle.words.specs.Base.{any, member, is_nil}
 use Rattle.words_lists.specs.Ahead.{ahead_of}
 use Rattle.words.specs.Names.{is_name, name_of, name_word, is_name_word}
 use Rattle.words.specs.Spelt.{name_length}

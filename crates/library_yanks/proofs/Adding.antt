@@ -1,5 +1,6 @@
 -- A name's flag is one of the flags, and is added to them. Assumes nothing.
 --   entry-within, flag-add
+use Rattle.std.specs.Prelude.{if◌then◌else◌}
 use Prim.Native.Nat.{ℕ, suc, ◌+◌, ◌≤◌, ◌<◌}
 use native.Mathlib.Omega.{arith}
 use mathlib.Core.Path.{◌≡◌, refl, ap, ◌∙◌}
@@ -9,7 +10,6 @@ use lib.Dec.{eqb}
 use lib.ListN.{length, set}
 use lib.Seq.{get_or-set_same, get_or-set_other}
 use borrow.Author.Tests.{eqb-true, eqb-false}
-use Rattle.words.specs.Base.{if◌then◌else◌}
 use Rattle.library.specs.Library.{entry_from, entry_of}
 use Rattle.library_yanks.specs.Bytes.{flagged}
 

@@ -2,6 +2,7 @@
 --   Linking, link_start, link-more, link-end    each card goes ahead of its owner's others
 --   Following, follow-start, follow-more, follow-end    one owner's cards
 --   top-more, top-end, top_start, taken-words                         owners from the highest down
+use Rattle.std.specs.Prelude.{if◌then◌else◌}
 use Prim.Native.Nat.{ℕ, suc, ◌-◌, ◌≤◌, ◌<◌}
 use native.Mathlib.Omega.{arith}
 use mathlib.Core.Path.{◌≡◌, refl, sym, ap, ◌∙◌, subst}
@@ -11,7 +12,6 @@ use borrow.Author.Tests.{eqb-true, eqb-false, leb-true}
 use lib.Dec.{eqb, leb}
 use lib.ListN.{length, get_or, set, take, length-set}
 use lib.Seq.{take_all, take-length, get_or-set_same, get_or-set_other}
-use Rattle.words.specs.Base.{if◌then◌else◌}
 use Rattle.library.specs.Each.{Each}
 use Rattle.library.proofs.EachTest.{each_map}
 use Rattle.library.specs.declared.Seen.{Seen}

@@ -3,6 +3,7 @@
 --   Marking, mark-start, mark-more, mark-end    the names of a field
 --   names-yank, names-other                     the names of a line
 --   act-on, act-off                             a card
+use Rattle.std.specs.Prelude.{if◌then◌else◌}
 use Prim.Native.Nat.{ℕ, ◌≤◌}
 use mathlib.Core.Path.{◌≡◌, refl, sym, ap, ◌∙◌}
 use mathlib.Core.Bool.{Bool, true, false}
@@ -11,7 +12,6 @@ use borrow.Author.Tests.{eq-eqb, ne_eqb}
 use lib.Dec.{eqb}
 use lib.ListN.{length, set}
 use lib.Seq.{set_out}
-use Rattle.words.specs.Base.{if◌then◌else◌}
 use Rattle.words.specs.Spelt.{word_of_name}
 use Rattle.words_lines.specs.Directive.{directive, params, field}
 use Rattle.words_lines.specs.declared.Line.{Line}

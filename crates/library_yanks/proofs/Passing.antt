@@ -5,6 +5,7 @@
 --   CardAt, AllAt, back_at          the cards that stand at places, the last first
 --   pass-is, top-is                 one owner's cards, owners from the highest down
 --   settled-bits, settled_is        the flags
+use Rattle.std.specs.Prelude.{if◌then◌else◌}
 use Prim.Native.Nat.{ℕ, zero, suc, ◌≤◌, ◌<◌}
 use native.Mathlib.Omega.{arith}
 use native.Mathlib.Decide.{dec_le}
@@ -16,7 +17,7 @@ use lib.Dec.{T, eqb, ltb, ltb→lt}
 use lib.ListN.{length, get_or, set, take, length-set}
 use lib.Seq.{take_all, get_or-set_same, get_or-set_other, set_out}
 use Rattle.words.proofs.TestParts.{or_assoc}
-use Rattle.words.specs.Base.{if◌then◌else◌, any, all, member}
+use Rattle.words.specs.Base.{any, all, member}
 use Rattle.words_lines.specs.Directive.{directive, yank_names}
 use Rattle.library.specs.Each.{Each}
 use Rattle.library.specs.Library.{Card, history, name_at, entry_of}

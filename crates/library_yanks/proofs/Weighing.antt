@@ -4,6 +4,7 @@
 --   byte-none, byte-yanked, byte-says   one byte's say
 --   active-start, active_on, active-end the activity, word by word
 --   say-used                            unused bytes say nothing
+use Rattle.std.specs.Prelude.{if◌then◌else◌}
 use Prim.Native.Nat.{ℕ, suc, ◌+◌, ◌-◌, ◌/◌, ◌%◌, ◌^◌, ◌≤◌, ◌<◌}
 use native.Mathlib.Omega.{arith}
 use native.Mathlib.Numerals.{add-one}
@@ -14,7 +15,7 @@ use lib.Dec.{eqb, leb}
 use lib.ListN.{length, get_or, take, drop, length-drop, get_or-eq_default}
 use lib.Seq.{drop-cons, take_all}
 use borrow.Author.Tests.{eq-eqb, ne_eqb, leb-false}
-use Rattle.words.specs.Base.{if◌then◌else◌, is_nil}
+use Rattle.words.specs.Base.{is_nil}
 use Rattle.library.specs.Check.{threes, raw_bytes, used}
 use Rattle.library_yanks.specs.Bytes.{part, flagged, say_byte, say_all}
 

@@ -1,6 +1,7 @@
 -- The flags settled from the words of a sound library's YANK$$$ are 1 where the number is yanked, 0 else. Assumes nothing.
 --   cards-at                        the cards stand at the places of their words
 --   settled-yanked                  the law
+use Rattle.std.specs.Prelude.{if◌then◌else◌}
 use Prim.Native.Nat.{ℕ, suc, ◌+◌, ◌≤◌, ◌<◌}
 use native.Mathlib.Omega.{arith}
 use mathlib.Core.Path.{◌≡◌, refl, sym, ap, ap₂, ◌∙◌, subst}
@@ -9,7 +10,7 @@ use mathlib.Core.List.{List, [], ◌∷◌, ◌++◌, map}
 use borrow.Author.Tests.{eqb-true, eqb-false}
 use lib.Dec.{T, eqb, leb→le}
 use lib.ListN.{length, get_or, drop, length-append, length-drop}
-use Rattle.words.specs.Base.{if◌then◌else◌, any, all}
+use Rattle.words.specs.Base.{any, all}
 use Rattle.words.specs.Text.{text_words}
 use Rattle.words.proofs.TestParts.{true-T}
 use Rattle.words_lines.specs.Directive.{directive}

@@ -2,8 +2,7 @@
 --   words from a place on   part
 --   flags                   flagged
 --   activity                say_byte, say_all
-use Rattle.std.specs.Prelude.{ℕ, ◌-◌, ◌/◌, ◌%◌, ◌^◌, Bool, List, [], ◌∷◌, eqb, get_or, take, drop}
-use Rattle.words.specs.Base.{if◌then◌else◌}
+use Rattle.std.specs.Prelude.{ℕ, ◌-◌, ◌/◌, ◌%◌, ◌^◌, Bool, List, [], ◌∷◌, eqb, get_or, take, drop, if◌then◌else◌}
 
 -- the words from a place up to another
 abbrev pub part : ℕ → ℕ → List ℕ → List ℕ

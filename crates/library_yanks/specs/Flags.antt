@@ -4,8 +4,7 @@
 --   the flags          from_top, top, settled_flags
 --   the theorem        SettledYanked
 --   how they are read  Chain, Linked
-use Rattle.std.specs.Prelude.{ℕ, zero, suc, ◌<◌, ◌≡◌, Bool, false, List, [], ◌∷◌, eqb, leb, length, get_or, set, take, replicate}
-use Rattle.words.specs.Base.{if◌then◌else◌}
+use Rattle.std.specs.Prelude.{ℕ, zero, suc, ◌<◌, ◌≡◌, Bool, false, List, [], ◌∷◌, eqb, leb, length, get_or, set, take, replicate, if◌then◌else◌}
 use Rattle.words_lines.specs.Directive.{directive, yank_names}
 use Rattle.library.specs.Library.{Library, entry_of}
 use Rattle.library.specs.Yanks.{is_yank, yanked}

@@ -4,8 +4,7 @@
 --   further history words   further_bits, further_says
 --   a card                  own_bits, own_says, with_active, card_bits
 --   cards                   settled_words
-use Rattle.std.specs.Prelude.{ℕ, ◌+◌, ◌-◌, ◌*◌, ◌/◌, ◌%◌, ◌^◌, Bool, not, List, [], ◌∷◌, eqb, leb, length, get_or}
-use Rattle.words.specs.Base.{if◌then◌else◌}
+use Rattle.std.specs.Prelude.{ℕ, ◌+◌, ◌-◌, ◌*◌, ◌/◌, ◌%◌, ◌^◌, Bool, not, List, [], ◌∷◌, eqb, leb, length, get_or, if◌then◌else◌}
 use Rattle.library.specs.Image.{bit}
 use Rattle.library.specs.Check.{is_last_word}
 use Rattle.library.specs.CardWords.{cards_by}

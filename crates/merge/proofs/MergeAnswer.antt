@@ -3,6 +3,7 @@
 --   limit-answer, space-answer, done-answer     31, 32, the words
 --   shared-answer, apart-answer     37, or what comes after it
 --   first-answer, second-answer, sound-answer   the checks
+use Rattle.std.specs.Prelude.{if◌then◌else◌}
 use Prim.Native.Nat.{ℕ, suc, ◌+◌, ◌-◌, ◌≤◌, ◌<◌}
 use native.Mathlib.Omega.{arith}
 use mathlib.Core.Path.{◌≡◌, refl, sym, ap, ap₂, ◌∙◌, subst}
@@ -12,7 +13,7 @@ use mathlib.Core.Option.{Option, none, some}
 use borrow.Author.Tests.{lt-ltb, le-ltb}
 use lib.Dec.{T, ltb}
 use lib.ListN.{length, drop}
-use Rattle.words.specs.Base.{if◌then◌else◌, place_from}
+use Rattle.words.specs.Base.{place_from}
 use Rattle.words.proofs.TestParts.{true-T}
 use Rattle.library.specs.Library.{Library, stream}
 use Rattle.library.specs.Image.{encode, within_limits}

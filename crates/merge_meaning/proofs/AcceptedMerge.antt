@@ -1,4 +1,5 @@
 -- What an accepted merge of two images is, and M4: the fresh library on either side gives the other back.
+use Rattle.std.specs.Prelude.{if◌then◌else◌}
 use Prim.Native.Nat.{ℕ, suc, ◌≤◌}
 use native.Mathlib.Omega.{arith}
 use mathlib.Core.Path.{◌≡◌, refl, sym, ap, ap₂, ◌∙◌, subst}
@@ -7,7 +8,6 @@ use mathlib.Core.List.{List, [], ◌++◌, map, append-nil}
 use mathlib.Core.Option.{Option, none, some}
 use lib.Dec.{T, ltb, nltb→le, ltb→lt}
 use lib.ListN.{length}
-use Rattle.words.specs.Base.{if◌then◌else◌}
 use Rattle.words.proofs.TestParts.{T-true}
 use Rattle.library.specs.Library.{Library, fresh}
 use Rattle.library.specs.Image.{encode, within_limits}

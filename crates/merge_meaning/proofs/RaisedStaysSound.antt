@@ -1,5 +1,6 @@
 -- What is sound under a directory is sound, raised, where that directory follows another.
 -- This is where the kinds of target are told apart.
+use Rattle.std.specs.Prelude.{if◌then◌else◌}
 use Prim.Native.Nat.{ℕ, suc, ◌+◌, ◌-◌, ◌≤◌, ◌<◌}
 use native.Mathlib.Omega.{arith}
 use mathlib.Core.Path.{◌≡◌, refl, sym, ap, ap₂, ◌∙◌, subst}
@@ -8,7 +9,7 @@ use mathlib.Core.List.{List, [], ◌∷◌, ◌++◌, map}
 use borrow.Author.Tests.{eq-eqb, ne_eqb}
 use lib.Dec.{T, eqb, eqb→eq, eqb_refl, ltb, leb, lt→ltb, le→leb, ltb→lt, leb→le}
 use lib.ListN.{length}
-use Rattle.words.specs.Base.{if◌then◌else◌, any, all, member}
+use Rattle.words.specs.Base.{any, all, member}
 use Rattle.words.specs.Names.{is_name_word}
 use Rattle.words.proofs.TestParts.{and_both}
 use Rattle.words_lines.specs.Directive.{directive, yank_names}

@@ -4,9 +4,9 @@
 --   over images      Merging, fitted_in, from_shared, merge_checked, merging
 --   the answer       merged, merged_number, merged_value, merged_which, merge_into
 -- What is raised and by how much: raise_byte, raise_card, raise_deck (library_raise/specs/RaisedCards.antt).
-use Rattle.std.specs.Prelude.{ℕ, not, List, ◌++◌, map, ltb, length, drop}
+use Rattle.std.specs.Prelude.{ℕ, not, List, ◌++◌, map, ltb, length, drop, if◌then◌else◌}
 use Rattle.std.proofs.Math.Option.{Option, none, some}
-use Rattle.words.specs.Base.{if◌then◌else◌, place_from}
+use Rattle.words.specs.Base.{place_from}
 use Rattle.library.specs.Library.{Library, has_name}
 use Rattle.library.specs.Image.{encode, within_limits}
 use Rattle.library.specs.Check.{Checking, good, bad, check, fault_number}

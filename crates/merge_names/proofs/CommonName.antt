@@ -1,6 +1,7 @@
 -- An entry of the second whose name the first has, and its number there.
 --   entry-purged, entry_named, bounded     its number there
 --   shared-none, shared-some               whether it has one
+use Rattle.std.specs.Prelude.{if◌then◌else◌}
 use Prim.Native.Nat.{ℕ, ◌≤◌}
 use native.Mathlib.Omega.{arith}
 use native.Mathlib.Decide.{ℕ_discrete}
@@ -10,7 +11,7 @@ use mathlib.Core.List.{List}
 use borrow.Author.Tests.{eq-eqb, ne_eqb}
 use lib.Dec.{eqb}
 use lib.ListN.{length}
-use Rattle.words.specs.Base.{if◌then◌else◌, member}
+use Rattle.words.specs.Base.{member}
 use Rattle.words.proofs.TestParts.{T-true, and-false, not-true}
 use Rattle.library.specs.Library.{purged, entry_of}
 use Rattle.library.proofs.NoTwo.{none_any}

@@ -1,9 +1,8 @@
 -- CODE. A name that two directories have, by the number of its entry.
 --   an entry's name in the other directory   shared_entry
 --   a place or none                          or_none
-use Rattle.std.specs.Prelude.{ℕ, List, eqb}
+use Rattle.std.specs.Prelude.{ℕ, List, eqb, if◌then◌else◌}
 use Rattle.std.proofs.Math.Option.{Option, none, some}
-use Rattle.words.specs.Base.{if◌then◌else◌}
 use Rattle.library.specs.Library.{purged, entry_of}
 
 -- the number that an entry's name has in the first directory; 0 where it has none, and for a purged entry

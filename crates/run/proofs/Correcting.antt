@@ -1,4 +1,5 @@
 -- INSERT and BEFORE: the card is found in the stream where the definitions find it in its part.
+use Rattle.std.specs.Prelude.{if◌then◌else◌}
 use Prim.Native.Nat.{ℕ, zero, suc, ◌+◌, ◌-◌, ◌≤◌, ◌<◌}
 use native.Mathlib.Omega.{arith}
 use mathlib.Core.Path.{◌≡◌, refl, sym, ap, ap₂, ◌∙◌, subst}
@@ -9,7 +10,6 @@ use lib.Dec.{T, eqb}
 use lib.ListN.{length, get_or, take, drop, take-append-drop}
 use lib.Seq.{length-take-le}
 use Rattle.words.proofs.TestParts.{and-false}
-use Rattle.words.specs.Base.{if◌then◌else◌}
 use Rattle.words_lines.specs.Directive.{directive}
 use Rattle.words_lines.specs.declared.CardName.{CardName}
 use Rattle.words_lines.specs.declared.Line.TheVariants.{Insert, Before}

@@ -1,9 +1,9 @@
 -- A byte of a card, settled, is that byte under the new flags, and says what it says in the model.
+use Rattle.std.specs.Prelude.{if◌then◌else◌}
 use Prim.Native.Nat.{ℕ, ◌+◌, ◌*◌, ◌/◌, ◌%◌, ◌^◌, ◌<◌}
 use native.Mathlib.Omega.{arith}
 use mathlib.Core.Path.{◌≡◌, ap, ◌∙◌}
 use mathlib.Core.Bool.{Bool, true, false}
-use Rattle.words.specs.Base.{if◌then◌else◌}
 use Rattle.library.specs.Library.{Byte}
 use Rattle.library.specs.Image.{bit, byte_bits}
 use Rattle.library_yanks_bits.specs.SettledBits.{fix_byte, fix_word, say_byte, say_word}

@@ -1,4 +1,5 @@
 -- A history with one byte more has the same words but for its last: it takes the byte, or one word is added.
+use Rattle.std.specs.Prelude.{if◌then◌else◌}
 use Prim.Native.Nat.{ℕ, ◌+◌, ◌-◌, ◌*◌, ◌/◌, ◌%◌, ◌^◌, ◌<◌}
 use native.Mathlib.Omega.{arith}
 use mathlib.Core.Path.{◌≡◌, refl, sym, ap, ◌∙◌}
@@ -6,7 +7,6 @@ use mathlib.Core.Bool.{Bool, true, false}
 use mathlib.Core.List.{List, [], ◌∷◌, ◌++◌, map}
 use lib.Dec.{eqb}
 use borrow.Author.Tests.{eqb-true, eqb-false}
-use Rattle.words.specs.Base.{if◌then◌else◌}
 use Rattle.library.specs.Each.{Each}
 use Rattle.library.specs.Library.{Byte}
 use Rattle.library.specs.Yanks.{last_says}

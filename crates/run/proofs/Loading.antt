@@ -1,4 +1,5 @@
 -- An accepted image copied to the arrays of a run: its cards, their count, and the numbers of its decks.
+use Rattle.std.specs.Prelude.{if◌then◌else◌}
 use Prim.Native.Nat.{ℕ, suc, ◌+◌, ◌-◌, ◌≤◌, ◌<◌}
 use native.Mathlib.Omega.{arith}
 use native.Mathlib.Nat.{zero-add}
@@ -8,7 +9,7 @@ use mathlib.Core.List.{List, [], ◌∷◌, ◌++◌, map}
 use lib.Dec.{T, eqb}
 use lib.ListN.{length, take, drop, length-drop}
 use lib.Seq.{take_all, length-take-le}
-use Rattle.words.specs.Base.{if◌then◌else◌, member, all}
+use Rattle.words.specs.Base.{member, all}
 use Rattle.library.specs.Each.{Each}
 use Rattle.library.specs.Library.{Byte, Card, Deck, Library, deck_cards, joined, stream, name_at, entry_of, deck_names}
 use Rattle.library.specs.Yanks.{yanked}

@@ -1,4 +1,5 @@
 -- A card is looked for above the gap and then below it, and its index counts through both.
+use Rattle.std.specs.Prelude.{if◌then◌else◌}
 use Prim.Native.Nat.{ℕ, zero, suc, ◌+◌, ◌-◌, ◌≤◌, ◌<◌}
 use native.Mathlib.Omega.{arith}
 use native.Mathlib.Nat.{zero-add}
@@ -9,7 +10,7 @@ use lib.Dec.{T, T_not, eqb, eqb→eq}
 use lib.ListN.{length, take, drop, length-append, length-drop, take-append-drop}
 use lib.Seq.{length-take-le, take_all}
 use borrow.Author.Tests.{eq-eqb, eqb-true, eqb-false}
-use Rattle.words.specs.Base.{if◌then◌else◌, any}
+use Rattle.words.specs.Base.{any}
 use Rattle.words.proofs.TestParts.{true-T, and_both}
 use Rattle.library.specs.Each.{Each}
 use Rattle.library.specs.Library.{Card}

@@ -1,4 +1,5 @@
 -- A new card's head and text, written below the gap, make it the last card there.
+use Rattle.std.specs.Prelude.{if◌then◌else◌}
 use Prim.Native.Nat.{ℕ, suc, ◌+◌, ◌-◌, ◌*◌, ◌^◌, ◌≤◌, ◌<◌}
 use native.Mathlib.Omega.{arith}
 use native.Mathlib.Numerals.{add-one}
@@ -9,7 +10,6 @@ use lib.ListN.{length, take, drop, set, length-append, length-set, length-drop}
 use lib.Seq.{length-take-le, take-suc-set, drop-set-lt, take-paste, drop-paste, paste, drop-drop}
 use Rattle.run.proofs.Walking.{cards-snoc}
 use Rattle.run.proofs.Locating.{each_append}
-use Rattle.words.specs.Base.{if◌then◌else◌}
 use Rattle.words.specs.Text.{text_words}
 use Rattle.library.specs.Library.{Card}
 use Rattle.library.specs.Yanks.{active}

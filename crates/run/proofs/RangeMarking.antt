@@ -1,4 +1,5 @@
 -- A range that was found is barred, past a limit, or marked in place.
+use Rattle.std.specs.Prelude.{if◌then◌else◌}
 use Prim.Native.Nat.{ℕ, suc, ◌+◌, ◌-◌, ◌≤◌, ◌<◌}
 use native.Mathlib.Omega.{arith}
 use mathlib.Core.Path.{◌≡◌, refl, sym, ap, ap₂, ◌∙◌, subst, fun_ext}
@@ -8,7 +9,7 @@ use lib.Dec.{T, eqb, leb}
 use lib.ListN.{length, take, drop, length-append, length-drop}
 use lib.Seq.{length-take-le}
 use borrow.Author.Tests.{leb-true, leb-false}
-use Rattle.words.specs.Base.{if◌then◌else◌, any, all}
+use Rattle.words.specs.Base.{any, all}
 use Rattle.words.proofs.TestParts.{true-T}
 use Rattle.words_lines.specs.declared.CardName.{CardName}
 use Rattle.library.specs.Library.{Card, Deck, Library, deck_cards, joined, parts, stream}

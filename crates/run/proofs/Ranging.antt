@@ -1,4 +1,5 @@
 -- The cards of a range pass over the gap one after another, those of the wanted activity with one byte more.
+use Rattle.std.specs.Prelude.{if◌then◌else◌}
 use Prim.Native.Nat.{ℕ, ◌+◌, ◌-◌, ◌≤◌, ◌<◌}
 use native.Mathlib.Omega.{arith}
 use mathlib.Core.Path.{◌≡◌, refl, sym, ap, ◌∙◌}
@@ -11,7 +12,6 @@ use Rattle.run.proofs.Walking.{card-len, some-heads}
 use Rattle.run.proofs.Marking.{above}
 use Rattle.run.proofs.Parting.{lowered}
 use Rattle.run.proofs.Growing.{map-append}
-use Rattle.words.specs.Base.{if◌then◌else◌}
 use Rattle.library.specs.Each.{Each}
 use Rattle.library.specs.Library.{Byte, Card}
 use Rattle.library.specs.Yanks.{active}

@@ -1,4 +1,5 @@
 -- All bits settled again: the words have the bits of the flags that the words of YANK$$$ settle.
+use Rattle.std.specs.Prelude.{if◌then◌else◌}
 use Prim.Native.Nat.{ℕ, ◌≤◌, ◌<◌}
 use native.Mathlib.Omega.{arith}
 use mathlib.Core.Path.{◌≡◌, refl, sym, ap, ap₂, ◌∙◌, subst, fun_ext}
@@ -8,7 +9,7 @@ use lib.Dec.{T, eqb, eqb→eq}
 use lib.ListN.{length, get_or, take, set}
 use lib.Seq.{take-append-le, take-take, take_at, length-take-le, get_or-set_same, get_or-set_other}
 use Rattle.words.proofs.TestParts.{bool_iff}
-use Rattle.words.specs.Base.{if◌then◌else◌, any}
+use Rattle.words.specs.Base.{any}
 use Rattle.library.specs.Library.{Card, Library}
 use Rattle.library.specs.Yanks.{Yank, covers, last_says, yanked}
 use Rattle.library.specs.Settled.{NamesLower}

@@ -1,4 +1,5 @@
 -- A step in code and the step of the definitions: the same limits, the same refusals, a state that is held.
+use Rattle.std.specs.Prelude.{if◌then◌else◌}
 use Prim.Native.Nat.{ℕ, ◌+◌, ◌-◌, ◌≤◌, ◌<◌}
 use native.Mathlib.Omega.{arith}
 use mathlib.Core.Path.{◌≡◌, refl, sym, ap, ◌∙◌, subst}
@@ -7,7 +8,7 @@ use mathlib.Core.List.{List, ◌++◌}
 use lib.Dec.{T, leb, leb→le, le→leb}
 use lib.ListN.{length, take, drop, length-append, length-drop}
 use borrow.Author.Tests.{le-leb, le-ltb}
-use Rattle.words.specs.Base.{if◌then◌else◌, all, all_of}
+use Rattle.words.specs.Base.{all, all_of}
 use Rattle.words.proofs.TestParts.{T-true, bool_iff}
 use Rattle.library.specs.Each.{Each}
 use Rattle.library.specs.Library.{Card, Library, stream}

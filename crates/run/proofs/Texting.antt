@@ -1,4 +1,5 @@
 -- A text line: the card put at the gap is the new card of the definitions at the flat place of the text.
+use Rattle.std.specs.Prelude.{if◌then◌else◌}
 use Prim.Native.Nat.{ℕ, zero, suc, ◌+◌, ◌-◌, ◌≤◌, ◌<◌}
 use native.Mathlib.Omega.{arith}
 use native.Mathlib.Numerals.{add-one}
@@ -8,7 +9,7 @@ use mathlib.Core.List.{List, [], ◌∷◌, ◌++◌, map, append_assoc}
 use lib.Dec.{T}
 use lib.ListN.{length, take, drop, length-append}
 use lib.Seq.{take-append_seam, drop-append_seam, take_at}
-use Rattle.words.specs.Base.{if◌then◌else◌, all, member}
+use Rattle.words.specs.Base.{all, member}
 use Rattle.words.specs.Display.{in_chart}
 use Rattle.words.specs.Text.{trim, text_words}
 use Rattle.words_text_compress.specs.Answers.{compressing, compress_into}

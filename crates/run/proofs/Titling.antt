@@ -1,4 +1,5 @@
 -- The walk goes from card to card up to the first deck card; no card passed was one.
+use Rattle.std.specs.Prelude.{if◌then◌else◌}
 use Prim.Native.Nat.{ℕ, suc, ◌+◌, ◌≤◌, ◌<◌}
 use native.Mathlib.Omega.{arith}
 use native.Mathlib.Nat.{add-zero, zero-add}
@@ -7,7 +8,6 @@ use mathlib.Core.Bool.{Bool, true, false}
 use mathlib.Core.List.{List, [], ◌∷◌, ◌++◌}
 use lib.ListN.{length, take}
 use lib.Seq.{take_at}
-use Rattle.words.specs.Base.{if◌then◌else◌}
 use Rattle.library.specs.Library.{Card}
 use Rattle.library.specs.Image.{cards_words}
 use Rattle.run.specs.CardHeads.{text_of, heads_len, SeesAny}

@@ -1,4 +1,5 @@
 -- In the library in work marked cards fit, and settled cards are those under the new flags.
+use Rattle.std.specs.Prelude.{if◌then◌else◌}
 use Prim.Native.Nat.{ℕ, ◌+◌, ◌-◌, ◌≤◌, ◌<◌}
 use native.Mathlib.Omega.{arith}
 use mathlib.Core.Path.{◌≡◌, refl, sym, ap, ◌∙◌}
@@ -9,7 +10,7 @@ use borrow.Author.Tests.{le-leb, leb-true}
 use lib.ListN.{length, take, drop, length-append, length-drop, drop_of_length-le}
 use lib.Seq.{take_all, take_at, drop_at, length-take-le, drop-drop, take-append-le, take-take}
 use borrow.Rule.Slice.PartMut.{mid_of, post_of, put_mid}
-use Rattle.words.specs.Base.{if◌then◌else◌, all}
+use Rattle.words.specs.Base.{all}
 use Rattle.library.specs.Each.{Each}
 use Rattle.library.specs.Library.{Byte, Card, history}
 use Rattle.library.specs.Yanks.{active}

@@ -1,4 +1,5 @@
 -- The library in work written out, tables and cards below and above the gap, is the image.
+use Rattle.std.specs.Prelude.{if◌then◌else◌}
 use Prim.Native.Nat.{ℕ, ◌+◌, ◌-◌, ◌*◌, ◌^◌, ◌<◌}
 use native.Mathlib.Omega.{arith}
 use mathlib.Core.Path.{◌≡◌, refl, sym, ap, ap₂, ◌∙◌}
@@ -8,7 +9,6 @@ use borrow.Author.Tests.{leb-true, leb-false}
 use lib.Dec.{ltb, leb, lt→ltb, ltb→lt, T}
 use lib.ListN.{length, take, drop, length-drop}
 use lib.Seq.{take_all, length-take-le}
-use Rattle.words.specs.Base.{if◌then◌else◌}
 use Rattle.words.proofs.TestParts.{T-true}
 use Rattle.library.specs.Library.{Library, stream, deck_names}
 use Rattle.library.specs.Yanks.{yanked}

@@ -1,4 +1,5 @@
 -- YANK$$$ marked: all of it stands below the gap, and the bits are settled for the new flags.
+use Rattle.std.specs.Prelude.{if◌then◌else◌}
 use Prim.Native.Nat.{ℕ, ◌+◌, ◌-◌, ◌≤◌}
 use native.Mathlib.Omega.{arith}
 use mathlib.Core.Path.{◌≡◌, sym, ap, ◌∙◌, subst}
@@ -6,7 +7,7 @@ use mathlib.Core.Bool.{Bool, true, false}
 use mathlib.Core.List.{List, ◌++◌, map}
 use lib.ListN.{length, take, drop, length-append, take-append-drop}
 use lib.Seq.{take-append_seam, length-take-le}
-use Rattle.words.specs.Base.{if◌then◌else◌, all_of}
+use Rattle.words.specs.Base.{all_of}
 use Rattle.library.specs.Library.{Card, deck_cards, joined, stream}
 use Rattle.library.specs.Image.{cards_words}
 use Rattle.library.proofs.LimitsByCount.{words, words-under, Small, within-small}

@@ -1,4 +1,5 @@
 -- The card of a YANK line at the end of YANK$$$: once the bits are settled the new state is held.
+use Rattle.std.specs.Prelude.{if◌then◌else◌}
 use Prim.Native.Nat.{ℕ, suc, ◌+◌, ◌-◌, ◌≤◌, ◌<◌}
 use native.Mathlib.Omega.{arith}
 use native.Mathlib.Numerals.{add-one}
@@ -8,7 +9,7 @@ use mathlib.Core.List.{List, [], ◌∷◌, ◌++◌, map}
 use lib.Dec.{T}
 use lib.ListN.{length, take, drop, length-append}
 use lib.Seq.{take_at, drop_at}
-use Rattle.words.specs.Base.{if◌then◌else◌, all, all_of}
+use Rattle.words.specs.Base.{all, all_of}
 use Rattle.words.specs.Text.{trim}
 use Rattle.words_lines.specs.Directive.{directive, line_number}
 use Rattle.words_lines.specs.declared.Line.TheVariants.{Yank as YankLine}

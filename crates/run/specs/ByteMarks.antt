@@ -2,8 +2,7 @@
 --   one byte more         byte_of, with_byte, last_with, ByteAdded, Marks
 --   the cards of a range  mark_one, mark_all, Short, Passed, Passes, Ranged, MarksRange
 --   a new card            Puts
-use Rattle.std.specs.Prelude.{ℕ, ◌+◌, ◌-◌, ◌*◌, ◌/◌, ◌%◌, ◌^◌, ◌≤◌, ◌<◌, ◌≡◌, Bool, false, List, [], ◌∷◌, ◌++◌, map, eqb, length, take, drop, get_or}
-use Rattle.words.specs.Base.{if◌then◌else◌}
+use Rattle.std.specs.Prelude.{ℕ, ◌+◌, ◌-◌, ◌*◌, ◌/◌, ◌%◌, ◌^◌, ◌≤◌, ◌<◌, ◌≡◌, Bool, false, List, [], ◌∷◌, ◌++◌, map, eqb, length, take, drop, get_or, if◌then◌else◌}
 use Rattle.words.specs.Text.{text_words}
 use Rattle.library.specs.Each.{Each}
 use Rattle.library.specs.Library.{Byte, Card}

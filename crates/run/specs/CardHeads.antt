@@ -2,8 +2,7 @@
 --   of a card           own_byte, text_of, head_word, heads_of, heads_len, card_of
 --   what fits           FitsByte, Fits
 --   read of its words   head_len, beyond, Sees, SeesAny, FullAny
-use Rattle.std.specs.Prelude.{ℕ, suc, ◌+◌, ◌*◌, ◌/◌, ◌%◌, ◌^◌, ◌≤◌, ◌<◌, ◌≡◌, Bool, true, false, List, [], ◌∷◌, ◌++◌, map, leb, length, drop, get_or}
-use Rattle.words.specs.Base.{if◌then◌else◌}
+use Rattle.std.specs.Prelude.{ℕ, suc, ◌+◌, ◌*◌, ◌/◌, ◌%◌, ◌^◌, ◌≤◌, ◌<◌, ◌≡◌, Bool, true, false, List, [], ◌∷◌, ◌++◌, map, leb, length, drop, get_or, if◌then◌else◌}
 use Rattle.words.specs.Text.{text_words}
 use Rattle.library.specs.Each.{Each}
 use Rattle.library.specs.Library.{Byte, Card, history}

@@ -1,8 +1,7 @@
 -- CODE. Where a card stands among cards, and in their words (RULES, "Cards"), by its owner and its sequence number.
 --   among cards   index_of
 --   in words      named_at, CardRun, Found, Finds
-use Rattle.std.specs.Prelude.{ℕ, suc, ◌+◌, ◌/◌, ◌%◌, ◌^◌, ◌≡◌, Bool, ◌&&◌, List, [], ◌∷◌, ◌++◌, eqb, length, take, drop, get_or}
-use Rattle.words.specs.Base.{if◌then◌else◌}
+use Rattle.std.specs.Prelude.{ℕ, suc, ◌+◌, ◌/◌, ◌%◌, ◌^◌, ◌≡◌, Bool, ◌&&◌, List, [], ◌∷◌, ◌++◌, eqb, length, take, drop, get_or, if◌then◌else◌}
 use Rattle.library.specs.Each.{Each}
 use Rattle.library.specs.Library.{Card}
 use Rattle.library.specs.Image.{cards_words}

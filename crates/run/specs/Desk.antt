@@ -4,8 +4,8 @@
 --   where text goes      moved_desk, TextGoes
 --   the relation         Tables, Held, HeldUnder
 --   a step               Answered
-use Rattle.std.specs.Prelude.{ℕ, ◌+◌, ◌-◌, ◌≤◌, ◌≡◌, Bool, List, [], ◌∷◌, ◌++◌, leb, length, take}
-use Rattle.words.specs.Base.{if◌then◌else◌, all_of, member}
+use Rattle.std.specs.Prelude.{ℕ, ◌+◌, ◌-◌, ◌≤◌, ◌≡◌, Bool, List, [], ◌∷◌, ◌++◌, leb, length, take, if◌then◌else◌}
+use Rattle.words.specs.Base.{all_of, member}
 use Rattle.library.specs.Library.{Card, Library, stream, deck_names}
 use Rattle.library.specs.Yanks.{yanked}
 use Rattle.library.specs.Image.{cards_words}

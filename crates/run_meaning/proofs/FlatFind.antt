@@ -1,4 +1,5 @@
 -- A card is found in its part exactly where the stream has it, and spots stand in the order of the stream.
+use Rattle.std.specs.Prelude.{if◌then◌else◌}
 use Prim.Native.Nat.{ℕ, zero, suc, ◌+◌, ◌≤◌, ◌<◌}
 use native.Mathlib.Omega.{arith}
 use mathlib.Core.Path.{◌≡◌, refl, sym, ap, ◌∙◌, subst}
@@ -7,7 +8,7 @@ use mathlib.Core.List.{List, [], ◌∷◌, ◌++◌}
 use mathlib.Core.Option.{Option, none, some}
 use lib.Dec.{T, eqb, ltb, eqb→eq, eqb_refl, ltb→lt, lt→ltb, nltb→le}
 use lib.ListN.{length, drop, length-append}
-use Rattle.words.specs.Base.{if◌then◌else◌, place_from}
+use Rattle.words.specs.Base.{place_from}
 use Rattle.words.proofs.TestParts.{T-true, bool_iff}
 use Rattle.words_lines.specs.declared.CardName.{CardName}
 use Rattle.library.specs.Library.{Card, Library, joined, parts, stream, entry_of}

@@ -1,4 +1,5 @@
 -- A card that is found stands in a part of the library.
+use Rattle.std.specs.Prelude.{if◌then◌else◌}
 use Prim.Native.Nat.{ℕ, suc, ◌+◌, ◌<◌}
 use native.Mathlib.Omega.{arith}
 use mathlib.Core.Path.{◌≡◌, ap}
@@ -7,7 +8,7 @@ use mathlib.Core.List.{List, [], ◌∷◌}
 use mathlib.Core.Option.{Option, none, some}
 use lib.Dec.{eqb}
 use lib.ListN.{length, length-map}
-use Rattle.words.specs.Base.{if◌then◌else◌, place_from}
+use Rattle.words.specs.Base.{place_from}
 use Rattle.words_lines.specs.declared.CardName.{CardName}
 use Rattle.library.specs.Library.{Card, Library, deck_cards, parts, entry_of}
 use Rattle.run_meaning.specs.Step.{Spot, spot_in, find_from, is_card_of, find}

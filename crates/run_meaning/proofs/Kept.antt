@@ -1,11 +1,11 @@
 -- R4 and R5: an accepted run keeps the library sound, adds the cards of its lines and drops none.
+use Rattle.std.specs.Prelude.{if◌then◌else◌}
 use Prim.Native.Nat.{ℕ, ◌+◌, ◌≤◌}
 use mathlib.Core.Path.{◌≡◌, refl, sym, ap, ◌∙◌, subst}
 use mathlib.Core.Bool.{Bool, true, false, not}
 use mathlib.Core.List.{List, []}
 use lib.Dec.{T, leb→le, ltb, nltb→le}
 use lib.ListN.{length}
-use Rattle.words.specs.Base.{if◌then◌else◌}
 use Rattle.words_lines.specs.Directive.{lines}
 use Rattle.library.specs.Library.{Library, stream}
 use Rattle.library.specs.Image.{limit_tests, within_limits, encode}

@@ -1,4 +1,5 @@
 -- The lines of the cards that a run makes are sound, and of the right kind for their place.
+use Rattle.std.specs.Prelude.{if◌then◌else◌}
 use Prim.Native.Nat.{ℕ, ◌≤◌, ◌<◌}
 use native.Mathlib.Omega.{arith}
 use mathlib.Core.Path.{◌≡◌, sym, ap, ◌∙◌, subst}
@@ -6,7 +7,7 @@ use mathlib.Core.Bool.{Bool, true, false, ◌&&◌, ◌||◌, not}
 use mathlib.Core.List.{List}
 use lib.Dec.{T, eqb, eqb_refl, ltb, lt→ltb, le→leb, T_not}
 use lib.ListN.{length}
-use Rattle.words.specs.Base.{if◌then◌else◌, any, all, same, member}
+use Rattle.words.specs.Base.{any, all, same, member}
 use Rattle.words.specs.Display.{in_chart}
 use Rattle.words.specs.Text.{trim}
 use Rattle.words.proofs.TestParts.{true-T, and_both, same_refl}

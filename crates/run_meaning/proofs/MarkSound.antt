@@ -1,4 +1,5 @@
 -- A byte of the unit at the end of histories keeps the library sound: its number is the highest.
+use Rattle.std.specs.Prelude.{if◌then◌else◌}
 use Prim.Native.Nat.{ℕ, zero, suc, ◌-◌, ◌≤◌}
 use native.Mathlib.Omega.{arith}
 use mathlib.Core.Path.{◌≡◌, refl, sym, ap, ◌∙◌, subst}
@@ -6,7 +7,7 @@ use mathlib.Core.Bool.{Bool, true, false, ◌&&◌, not, beq}
 use mathlib.Core.List.{List, [], ◌∷◌, ◌++◌, map}
 use lib.Dec.{T, eqb, leb, le→leb}
 use lib.ListN.{length, length-map}
-use Rattle.words.specs.Base.{if◌then◌else◌, all}
+use Rattle.words.specs.Base.{all}
 use Rattle.words.proofs.TestParts.{and_both, all_append}
 use Rattle.words_lines.specs.Directive.{directive}
 use Rattle.library.specs.Each.{Each}

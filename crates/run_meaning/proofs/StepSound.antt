@@ -1,4 +1,5 @@
 -- Each line keeps a library sound, so an accepted run makes a sound library of a sound one.
+use Rattle.std.specs.Prelude.{if◌then◌else◌}
 use Prim.Native.Nat.{ℕ, suc, ◌-◌, ◌<◌}
 use native.Mathlib.Omega.{arith}
 use mathlib.Core.Path.{◌≡◌, refl, ap, subst}
@@ -7,7 +8,7 @@ use mathlib.Core.List.{List, [], ◌∷◌}
 use mathlib.Core.Option.{Option, none, some}
 use lib.Dec.{T, eqb, eqb_refl}
 use lib.ListN.{length, length-append}
-use Rattle.words.specs.Base.{if◌then◌else◌, any}
+use Rattle.words.specs.Base.{any}
 use Rattle.words.specs.Names.{is_name_word}
 use Rattle.words.specs.Text.{trim}
 use Rattle.words_lines.specs.Directive.{directive, kind_of_line, lines, line_number, yank_names}

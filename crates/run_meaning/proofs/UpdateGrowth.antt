@@ -1,4 +1,5 @@
 -- The library of an accepted run is a growth of the old one by the names of its units.
+use Rattle.std.specs.Prelude.{if◌then◌else◌}
 use Prim.Native.Nat.{ℕ}
 use native.Mathlib.Omega.{arith}
 use mathlib.Core.Path.{◌≡◌, refl, subst}
@@ -6,7 +7,6 @@ use mathlib.Core.Bool.{Bool, true, false, not}
 use mathlib.Core.List.{List, [], ◌∷◌, ◌++◌}
 use lib.Dec.{T, ltb}
 use lib.ListN.{length}
-use Rattle.words.specs.Base.{if◌then◌else◌}
 use Rattle.words_lines.specs.Directive.{directive, lines}
 use Rattle.library.specs.Each.{Each}
 use Rattle.library.specs.Library.{Library}

@@ -1,11 +1,12 @@
 -- A set that only yanks leaves the library as it was, with its name and its cards at the end of YANK$$$.
+use Rattle.std.specs.Prelude.{if◌then◌else◌}
 use Prim.Native.Nat.{ℕ, suc}
 use mathlib.Core.Path.{◌≡◌, refl, sym, ap, ◌∙◌, subst}
 use mathlib.Core.Bool.{not, ◌&&◌}
 use mathlib.Core.List.{List, [], ◌∷◌, ◌++◌, map, append-nil, append_assoc}
 use lib.Dec.{T}
 use lib.ListN.{length}
-use Rattle.words.specs.Base.{if◌then◌else◌, any}
+use Rattle.words.specs.Base.{any}
 use Rattle.words.specs.Text.{trim}
 use Rattle.words_lines.specs.Directive.{directive, line_number, yank_names}
 use Rattle.words_lines.specs.declared.Line.{Line}

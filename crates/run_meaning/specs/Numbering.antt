@@ -1,7 +1,6 @@
 -- CODE. The cards of a unit, numbered one after another.
 --   number_after
-use Rattle.std.specs.Prelude.{ℕ, ◌+◌, ltb}
-use Rattle.words.specs.Base.{if◌then◌else◌}
+use Rattle.std.specs.Prelude.{ℕ, ◌+◌, ltb, if◌then◌else◌}
 
 -- the largest number of a card is 262,143; past any number it stays
 unfoldable pub number_after : ℕ → ℕ

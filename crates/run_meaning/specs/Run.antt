@@ -4,8 +4,7 @@
 --   over images          Running, from_updated, run_checked, running
 --   the answer           ran, run_into
 --   the table's numbers  why_number, ran_number, ran_value
-use Rattle.std.specs.Prelude.{ℕ, suc, List, [], ◌∷◌, ◌++◌, ltb, length, drop}
-use Rattle.words.specs.Base.{if◌then◌else◌}
+use Rattle.std.specs.Prelude.{ℕ, suc, List, [], ◌∷◌, ◌++◌, ltb, length, drop, if◌then◌else◌}
 use Rattle.words_lines.specs.Directive.{lines}
 use Rattle.library.specs.Library.{Library}
 use Rattle.library.specs.Image.{encode}

@@ -10,10 +10,10 @@
 --   INSERT, BEFORE        insert_after, insert_before
 --   DELETE, RESTORE       marked, over_range, number_at, mark_in, after_mark, mark_range
 --   a line                obey, step
-use Rattle.std.specs.Prelude.{ℕ, zero, suc, ◌-◌, Bool, true, false, ◌&&◌, ◌||◌, not, List, [], ◌∷◌, ◌++◌, eqb, ltb, length, take, drop}
+use Rattle.std.specs.Prelude.{ℕ, zero, suc, ◌-◌, Bool, true, false, ◌&&◌, ◌||◌, not, List, [], ◌∷◌, ◌++◌, eqb, ltb, length, take, drop, if◌then◌else◌}
 use Rattle.std.specs.Bool.{beq}
 use Rattle.std.proofs.Math.Option.{Option, none, some}
-use Rattle.words.specs.Base.{if◌then◌else◌, any, place_from}
+use Rattle.words.specs.Base.{any, place_from}
 use Rattle.words.specs.Text.{trim}
 use Rattle.words_lines.specs.Directive.{directive, yank_names}
 use Rattle.words_lines.specs.declared.CardName.{CardName}

@@ -1,4 +1,5 @@
 -- The columns that a compressed line stands for are its own, and how many codes it has. Assumes nothing.
+use Rattle.std.specs.Prelude.{if◌then◌else◌}
 use Prim.Native.Nat.{ℕ, zero, suc, ◌+◌, ◌-◌, ◌*◌, ◌/◌, ◌≤◌}
 use native.Mathlib.Omega.{arith}
 use mathlib.Core.Path.{◌≡◌, refl, sym, ap, ap₂, ◌∙◌}
@@ -7,7 +8,7 @@ use mathlib.Core.List.{List, [], ◌∷◌, ◌++◌, append_assoc}
 use borrow.Author.Tests.{le-ltb}
 use lib.Dec.{T, eqb, eqb→eq, ltb, lt→ltb, T_not}
 use lib.ListN.{length, replicate, replicate-append-replicate, length-append}
-use Rattle.words.specs.Base.{if◌then◌else◌, all}
+use Rattle.words.specs.Base.{all}
 use Rattle.words.specs.Text.{gap, short_run, long_runs, blanks, sign, squeeze, compress, columns_of}
 use Rattle.words.proofs.TestParts.{and_left, and_right, and_both, all_append}
 use Rattle.words.proofs.TrimmedLine.{ends_well}

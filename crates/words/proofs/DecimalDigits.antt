@@ -1,4 +1,5 @@
 -- Decimal numbers read and written, one digit at a time. Assumes nothing.
+use Rattle.std.specs.Prelude.{if◌then◌else◌}
 use Prim.Native.Nat.{ℕ, zero, suc, ◌+◌, ◌-◌, ◌*◌, ◌/◌, ◌%◌, ◌^◌, ◌≤◌, ◌<◌}
 use native.Mathlib.Omega.{arith}
 use native.Mathlib.Numerals.{add-one}
@@ -10,7 +11,7 @@ use borrow.Author.Tests.{lt-ltb, le-ltb, le-leb, lt-leb}
 use lib.Dec.{ltb, lit<}
 use lib.ListN.{length, get_or, take, drop, set, replicate, drop_of_length-le, replicate-append-replicate}
 use lib.Seq.{drop-cons, set_split, drop_at, length-take-le, take-suc-set}
-use Rattle.words.specs.Base.{if◌then◌else◌, all}
+use Rattle.words.specs.Base.{all}
 use Rattle.words.specs.Display.{blank}
 use Rattle.words.specs.Names.{is_digit, decimal, is_number, number_read, digits, numeral, right_justified}
 use Rattle.words.specs.Spelt.{number_fits, number_into}

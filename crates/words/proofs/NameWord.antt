@@ -1,4 +1,5 @@
 -- A name's word from its letters, and a word's letters. Assumes nothing.
+use Rattle.std.specs.Prelude.{if◌then◌else◌}
 use Prim.Native.Nat.{ℕ, zero, suc, ◌+◌, ◌-◌, ◌*◌, ◌/◌, ◌%◌, ◌^◌, ◌≤◌, ◌<◌}
 use native.Mathlib.Omega.{arith}
 use native.Mathlib.Numerals.{add-one}
@@ -9,7 +10,7 @@ use borrow.Author.Tests.{lt-ltb, le-ltb, le-leb, lt-leb, eq-eqb, ne_eqb}
 use lib.Dec.{T, eqb, ltb, leb, leb→le}
 use lib.ListN.{length, get_or, take, drop, set, drop_of_length-le, length-drop, take-append-drop}
 use lib.Seq.{drop-cons, take-suc, take-suc-set, take-length}
-use Rattle.words.specs.Base.{if◌then◌else◌, all, is_nil, take_until}
+use Rattle.words.specs.Base.{all, is_nil, take_until}
 use Rattle.words.specs.Display.{code_of, letter}
 use Rattle.words.specs.Text.{low_codes}
 use Rattle.words.specs.Names.{is_name_byte, is_name, pack_codes, name_word, name_of, is_name_word}

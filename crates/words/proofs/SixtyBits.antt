@@ -1,4 +1,5 @@
 -- The words of a text and of a name have 60 bits.
+use Rattle.std.specs.Prelude.{if◌then◌else◌}
 use Prim.Native.Nat.{ℕ, zero, suc, ◌+◌, ◌-◌, ◌*◌, ◌^◌, ◌≤◌, ◌<◌}
 use native.Mathlib.Omega.{arith}
 use native.Mathlib.Nat.{pow-suc, one-le-pow, mul-le-mul_right}
@@ -7,7 +8,7 @@ use mathlib.Core.Bool.{Bool, true, false, ◌&&◌, not}
 use mathlib.Core.List.{List, [], ◌∷◌, map}
 use lib.Dec.{T, eqb, eqb→eq, ltb, leb, ltb→lt, leb→le, lt→ltb}
 use lib.ListN.{length}
-use Rattle.words.specs.Base.{if◌then◌else◌, all, is_nil}
+use Rattle.words.specs.Base.{all, is_nil}
 use Rattle.words.specs.Display.{code_of, in_chart}
 use Rattle.words.specs.Base.{is_word}
 use Rattle.words.specs.Text.{trim, compress, fill, words_of, text_words}

@@ -1,4 +1,5 @@
 -- Words of ten codes: the codes read back, and how many words there are. Assumes nothing.
+use Rattle.std.specs.Prelude.{if◌then◌else◌}
 use Prim.Native.Nat.{ℕ, zero, suc, ◌+◌, ◌-◌, ◌*◌, ◌/◌, ◌%◌, ◌^◌, ◌≤◌, ◌<◌}
 use native.Mathlib.Omega.{arith}
 use native.Mathlib.Nat.{mul-one, mul_assoc, pow-suc, add-zero, add-suc}
@@ -9,7 +10,7 @@ use mathlib.Core.List.{List, [], ◌∷◌, ◌++◌, append-nil}
 use borrow.Author.Tests.{ne_eqb}
 use lib.Dec.{T, ltb→lt}
 use lib.ListN.{length, replicate}
-use Rattle.words.specs.Base.{if◌then◌else◌, all}
+use Rattle.words.specs.Base.{all}
 use Rattle.words.specs.Text.{fill, words_of, low_codes, all_codes}
 use Rattle.words.proofs.TestParts.{and_left, and_right}
 use Rattle.words.proofs.CompressedLine.{is_code, replicate-snoc}

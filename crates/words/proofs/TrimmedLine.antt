@@ -1,4 +1,5 @@
 -- A line without its trailing blanks: what trimming keeps, and trimming column by column from the end. Assumes nothing.
+use Rattle.std.specs.Prelude.{if◌then◌else◌}
 use Prim.Native.Nat.{ℕ, zero, suc, ◌-◌, ◌≤◌, ◌<◌}
 use native.Mathlib.Omega.{arith}
 use mathlib.Core.Path.{◌≡◌, refl, sym, ap, ◌∙◌}
@@ -8,7 +9,7 @@ use borrow.Author.Tests.{ne_eqb, eqb-false}
 use lib.Dec.{T, eqb, eqb→eq, not_T}
 use lib.ListN.{length, get_or, take}
 use lib.Seq.{take-length}
-use Rattle.words.specs.Base.{if◌then◌else◌, all, is_nil}
+use Rattle.words.specs.Base.{all, is_nil}
 use Rattle.words.specs.Display.{code_of, in_chart, letter, blank}
 use Rattle.words.specs.Text.{trim, gap}
 use Rattle.words.proofs.TestParts.{and_left, and_right, and_both}

@@ -1,18 +1,12 @@
 -- MEANING. Small words that the definitions are written in.
---   choice        if◌then◌else◌
 --   quoted text   bytes_from, bytes, byte
 --   lists         any, all, all_of, any_of, member, same, is_nil, place_from
 --   words         is_word
 --   cutting       take_until, drop_until, beyond, into, split
-use Rattle.std.specs.Prelude.{ℕ, zero, suc, ◌-◌, ◌^◌, Bool, true, false, ◌&&◌, ◌||◌, List, [], ◌∷◌, eqb, ltb, drop}
+use Rattle.std.specs.Prelude.{ℕ, zero, suc, ◌-◌, ◌^◌, Bool, true, false, ◌&&◌, ◌||◌, List, [], ◌∷◌, eqb, ltb, drop, if◌then◌else◌}
 use Prim.Native.String.{String, len, char_at}
 use Prim.Native.Char.{code}
 use Rattle.std.proofs.Math.Option.{Option, none, some}
-
-infixr 5 if◌then◌else◌
-abbrev pub if◌then◌else◌ : {A : Type 0} → Bool → A → A → A
-if true then a else b = a
-if false then a else b = b
 
 -- the bytes of a quoted text: its last k
 abbrev pub bytes_from : String → ℕ → List ℕ

@@ -2,9 +2,9 @@
 --   the chart        chart, code_from, code_of, in_chart, letter
 --   quoted text      codes, codes_onto, codes_word
 --   named bytes      blank, comma, point, star, slash
-use Rattle.std.specs.Prelude.{ℕ, suc, ◌+◌, ◌*◌, Bool, List, [], ◌∷◌, map, eqb, ltb, get_or}
+use Rattle.std.specs.Prelude.{ℕ, suc, ◌+◌, ◌*◌, Bool, List, [], ◌∷◌, map, eqb, ltb, get_or, if◌then◌else◌}
 use Prim.Native.String.{String}
-use Rattle.words.specs.Base.{if◌then◌else◌, bytes}
+use Rattle.words.specs.Base.{bytes}
 
 -- the character of code 0, of code 1, .. up to 63
 abbrev pub chart : List ℕ

@@ -3,8 +3,8 @@
 --   numbers as read     is_digit, decimal, is_number, number_read
 --   numbers as written  digits, numeral, right_justified
 --   columns             left_justified
-use Rattle.std.specs.Prelude.{ℕ, zero, suc, ◌+◌, ◌-◌, ◌*◌, ◌/◌, ◌%◌, ◌^◌, Bool, ◌&&◌, not, List, [], ◌∷◌, ◌++◌, map, eqb, ltb, leb, length, take, replicate}
-use Rattle.words.specs.Base.{if◌then◌else◌, byte, all, is_nil, take_until}
+use Rattle.std.specs.Prelude.{ℕ, zero, suc, ◌+◌, ◌-◌, ◌*◌, ◌/◌, ◌%◌, ◌^◌, Bool, ◌&&◌, not, List, [], ◌∷◌, ◌++◌, map, eqb, ltb, leb, length, take, replicate, if◌then◌else◌}
+use Rattle.words.specs.Base.{byte, all, is_nil, take_until}
 use Rattle.words.specs.Display.{code_of, letter, blank}
 use Rattle.words.specs.Text.{low_codes}
 

@@ -1,8 +1,7 @@
 -- CODE. Names and numbers as functions on slices answer them: 0 where there is none, and a space that is written or stays.
 --   names     word_of_name, name_length, name_into
 --   numbers   number_fits, number_into
-use Rattle.std.specs.Prelude.{ℕ, Bool, List, ◌++◌, leb, length, drop}
-use Rattle.words.specs.Base.{if◌then◌else◌}
+use Rattle.std.specs.Prelude.{ℕ, Bool, List, ◌++◌, leb, length, drop, if◌then◌else◌}
 use Rattle.words.specs.Names.{is_name, name_word, name_of, is_name_word, numeral, right_justified}
 
 -- a name's word; 0, which is no name's, where it is none

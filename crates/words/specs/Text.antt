@@ -4,8 +4,8 @@
 --   codes to words and back      fill, words_of, low_codes, all_codes
 --   line to words                text_words
 --   words to line                columns_of, says, is_text
-use Rattle.std.specs.Prelude.{ℕ, zero, suc, ◌+◌, ◌-◌, ◌*◌, ◌/◌, ◌%◌, ◌^◌, Bool, ◌&&◌, List, [], ◌∷◌, ◌++◌, map, eqb, ltb, leb, length, replicate}
-use Rattle.words.specs.Base.{if◌then◌else◌, same, is_nil}
+use Rattle.std.specs.Prelude.{ℕ, zero, suc, ◌+◌, ◌-◌, ◌*◌, ◌/◌, ◌%◌, ◌^◌, Bool, ◌&&◌, List, [], ◌∷◌, ◌++◌, map, eqb, ltb, leb, length, replicate, if◌then◌else◌}
+use Rattle.words.specs.Base.{same, is_nil}
 use Rattle.words.specs.Display.{code_of, letter, blank}
 
 -- a line without the blanks at its end

@@ -1,6 +1,5 @@
 // Words of ten six-bit codes, the first code highest (RULES, "Text").
-ghost use Rattle.std.specs.Prelude.{◌≡◌, ◌^◌, ltb};
-ghost use Rattle.words.specs.Base.{if◌then◌else◌};
+ghost use Rattle.std.specs.Prelude.{◌≡◌, ◌^◌, ltb, if◌then◌else◌};
 
 // one more than the largest code, and how many codes a word holds
 pub const BASE: u64 = 0o100;

@@ -1,4 +1,5 @@
 -- What is known of a line from what it asks: its directive's kind, and that a unit's name is a name.
+use Rattle.std.specs.Prelude.{if◌then◌else◌}
 use Prim.Native.Nat.{ℕ, ◌≤◌}
 use native.Mathlib.Omega.{arith}
 use mathlib.Core.Path.{◌≡◌, refl}
@@ -6,7 +7,7 @@ use mathlib.Core.Bool.{Bool, true, false, ◌&&◌, not}
 use mathlib.Core.List.{List}
 use lib.Dec.{T, ltb, nltb→le}
 use lib.ListN.{length}
-use Rattle.words.specs.Base.{if◌then◌else◌, all, is_nil, take_until, beyond}
+use Rattle.words.specs.Base.{all, is_nil, take_until, beyond}
 use Rattle.words.specs.Display.{in_chart}
 use Rattle.words.specs.Names.{is_name, name_word, is_name_word}
 use Rattle.words.proofs.TestParts.{T-true, true-T}

@@ -1,6 +1,7 @@
 -- A list cut at the first element that passes a test, found place by place. Assumes nothing.
 --   how far it is                      reach-within, reach-end, reach_here, reach-more
 --   what is ahead, from there, beyond  take-reach, drop-reach; part-ahead, part-from, tail-beyond, tail-end
+use Rattle.std.specs.Prelude.{if◌then◌else◌}
 use mathlib.Core.Path.{◌≡◌, refl, sym, ap, ◌∙◌}
 use mathlib.Core.Bool.{Bool, true, false}
 use mathlib.Core.List.{List, [], ◌∷◌}
@@ -9,7 +10,7 @@ use native.Mathlib.Numerals.{add-one}
 use native.Mathlib.Omega.{arith}
 use lib.ListN.{length, take, drop, get_or, length-drop, drop_of_length-le}
 use lib.Seq.{drop-cons, drop-drop, take_all}
-use Rattle.words.specs.Base.{if◌then◌else◌, take_until, drop_until, beyond}
+use Rattle.words.specs.Base.{take_until, drop_until, beyond}
 
 all_left : (s : List ℕ) (e : ℕ) → take (length s - e) (drop e s) ≡ drop e s
 all_left s e = take_all (length s - e) (drop e s) (rw length-drop (omega arith))

@@ -2,6 +2,7 @@
 --   a step                       Step, step-name, step_end
 --   the names from a place on    names_from, names_more, names-none
 --   a YANK's                     yank-names
+use Rattle.std.specs.Prelude.{if◌then◌else◌}
 use mathlib.Core.Path.{◌≡◌, refl, sym, ap, ◌∙◌}
 use mathlib.Core.Bool.{Bool, true, false, ◌&&◌, not}
 use mathlib.Core.List.{List, [], ◌∷◌, map}
@@ -10,7 +11,7 @@ use native.Mathlib.Omega.{arith}
 use borrow.Author.Tests.{ltb-true, ltb-false}
 use lib.Dec.{ltb}
 use lib.ListN.{length, drop}
-use Rattle.words.specs.Base.{if◌then◌else◌, all, is_nil, take_until, beyond}
+use Rattle.words.specs.Base.{all, is_nil, take_until, beyond}
 use Rattle.words.specs.Display.{in_chart}
 use Rattle.words.specs.Names.{is_name, name_word}
 use Rattle.words.specs.Spelt.{word_of_name}

@@ -2,6 +2,7 @@
 --   a byte at a place           stands, stands-not
 --   where parameters start      after-empty, after-end, after-comma, after-blanks
 --   what follows them           clean-to
+use Rattle.std.specs.Prelude.{if◌then◌else◌}
 use mathlib.Core.Path.{◌≡◌, refl, sym, ap, ◌∙◌}
 use mathlib.Core.Bool.{Bool, true, false, ◌&&◌, not}
 use mathlib.Core.List.{List, [], ◌∷◌}
@@ -12,7 +13,7 @@ use borrow.Author.Tests.{eqb-true, eqb-false, eq-eqb, ne_eqb}
 use lib.Dec.{eqb, eqb-zero-suc, eqb-suc-suc}
 use lib.ListN.{length, drop, get_or, length-drop, drop_of_length-le}
 use lib.Seq.{drop-cons}
-use Rattle.words.specs.Base.{if◌then◌else◌, all, take_until, drop_until}
+use Rattle.words.specs.Base.{all, take_until, drop_until}
 use Rattle.words.specs.Display.{blank, comma}
 use Rattle.words_lines.specs.Directive.{starts, ends_name, after_name}
 use Rattle.words_lines.proofs.CutAtFirst.{part-from}

@@ -1,10 +1,11 @@
 -- The lines of two streams one after the other, where the first ends with a line, are those of both.
+use Rattle.std.specs.Prelude.{if◌then◌else◌}
 use Prim.Native.Nat.{ℕ}
 use mathlib.Core.Path.{◌≡◌, refl, ap, ◌∙◌}
 use mathlib.Core.Bool.{Bool, true, false, not}
 use mathlib.Core.List.{List, [], ◌∷◌, ◌++◌}
 use lib.Dec.{T}
-use Rattle.words.specs.Base.{if◌then◌else◌, is_nil, into}
+use Rattle.words.specs.Base.{is_nil, into}
 use Rattle.words_lines.specs.Directive.{is_end, lines}
 use Rattle.words_lines.specs.LineEnds.{LinesAppend}
 

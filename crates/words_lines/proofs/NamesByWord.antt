@@ -2,6 +2,7 @@
 --   two tests                                      and_left, and_right, and-false
 --   a number above 0, or 0                         picked, not-picked
 --   a name's word is 0 where there is none         is_name_lem, no_name, name-word
+use Rattle.std.specs.Prelude.{if◌then◌else◌}
 use mathlib.Core.Path.{◌≡◌, refl}
 use mathlib.Core.Bool.{Bool, true, false, ◌&&◌}
 use mathlib.Core.List.{List, [], ◌∷◌}
@@ -11,7 +12,6 @@ use native.Mathlib.Omega.{arith}
 use borrow.Author.Tests.{ltb-true}
 use lib.Dec.{leb}
 use lib.ListN.{length}
-use Rattle.words.specs.Base.{if◌then◌else◌}
 use Rattle.words.specs.Display.{code_of}
 use Rattle.words.specs.Names.{is_name_byte, is_name, pack_codes, name_word}
 use Rattle.words.specs.Spelt.{word_of_name}

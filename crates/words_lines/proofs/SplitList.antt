@@ -1,6 +1,7 @@
 -- A list split at the elements that pass a test, and a question put to each part. Assumes nothing.
 --   the parts from a place on     parts_from, parts_none, parts_more, part-fits
 --   one of them, all of them      any_none, any_here, any_next, all_none, all-next, all-not
+use Rattle.std.specs.Prelude.{if◌then◌else◌}
 use mathlib.Core.Path.{◌≡◌, refl, ap, ◌∙◌}
 use mathlib.Core.Bool.{Bool, true, false}
 use mathlib.Core.List.{List, [], ◌∷◌}
@@ -8,7 +9,7 @@ use Prim.Native.Nat.{ℕ, zero, suc, ◌+◌, ◌≤◌, ◌<◌}
 use native.Mathlib.Nat.{zero-add, add-zero, suc-add}
 use native.Mathlib.Omega.{arith}
 use lib.ListN.{length, drop, length-drop}
-use Rattle.words.specs.Base.{if◌then◌else◌, any, all, take_until, into, split}
+use Rattle.words.specs.Base.{any, all, take_until, into, split}
 use Rattle.words_lines.proofs.CutAtFirst.{reach-within}
 
 -- the parts from a place on: none past the end

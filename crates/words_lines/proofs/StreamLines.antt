@@ -2,6 +2,7 @@
 --   no line at or past the end                        lines_none
 --   the line at a place, and those after its end      lines_more
 --   where it ends, and where those start              line-within, after_line_lem, line-after-is
+use Rattle.std.specs.Prelude.{if◌then◌else◌}
 use mathlib.Core.Path.{◌≡◌, refl, sym, ap, ◌∙◌}
 use mathlib.Core.Bool.{Bool, true, false}
 use mathlib.Core.List.{List, [], ◌∷◌}
@@ -11,7 +12,7 @@ use native.Mathlib.Omega.{arith}
 use lib.ListN.{length, drop, length-drop, drop_of_length-le}
 use lib.Seq.{drop-drop}
 use borrow.Author.Tests.{le-ltb}
-use Rattle.words.specs.Base.{if◌then◌else◌, take_until, drop_until, into}
+use Rattle.words.specs.Base.{take_until, drop_until, into}
 use Rattle.words_lines.specs.Directive.{is_end, lines}
 use Rattle.words_lines.specs.FirstLine.{line_of, after_line, line_after}
 use Rattle.words_lines.proofs.CutAtFirst.{reach-within, drop-reach}

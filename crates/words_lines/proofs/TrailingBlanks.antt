@@ -1,4 +1,5 @@
 -- Trailing blanks change nothing of what a line asks, so a card asks what its line asked.
+use Rattle.std.specs.Prelude.{if◌then◌else◌}
 use Prim.Native.Nat.{ℕ, zero, suc, ◌≤◌, ◌<◌}
 use native.Mathlib.Omega.{arith}
 use mathlib.Core.Path.{◌≡◌, refl, sym, ap, ap₂, ◌∙◌}
@@ -6,7 +7,7 @@ use mathlib.Core.Bool.{Bool, true, false, ◌&&◌, not}
 use mathlib.Core.List.{List, [], ◌∷◌, ◌++◌, map}
 use lib.Dec.{T, eqb, eqb→eq, ltb, ltb→lt}
 use lib.ListN.{length, drop, replicate}
-use Rattle.words.specs.Base.{if◌then◌else◌, all, is_nil, take_until, drop_until}
+use Rattle.words.specs.Base.{all, is_nil, take_until, drop_until}
 use Rattle.words.specs.Display.{in_chart, blank, comma, star, slash}
 use Rattle.words.specs.Names.{name_word}
 use Rattle.words.specs.Text.{trim}

@@ -7,9 +7,9 @@
 --   what a line asks       asked, directive, line_number
 --   YANK's names           yank_names
 --   CALL                   call_names, call_of
-use Rattle.std.specs.Prelude.{ℕ, Bool, true, false, ◌&&◌, ◌||◌, not, List, [], ◌∷◌, map, eqb, ltb, length, drop}
+use Rattle.std.specs.Prelude.{ℕ, Bool, true, false, ◌&&◌, ◌||◌, not, List, [], ◌∷◌, map, eqb, ltb, length, drop, if◌then◌else◌}
 use Prim.Native.String.{String}
-use Rattle.words.specs.Base.{if◌then◌else◌, bytes, any, all, same, is_nil, take_until, drop_until, beyond, into, split}
+use Rattle.words.specs.Base.{bytes, any, all, same, is_nil, take_until, drop_until, beyond, into, split}
 use Rattle.words.specs.Display.{in_chart, blank, comma, point, star, slash}
 use Rattle.words.specs.Names.{is_name, name_word, is_number, decimal}
 use Rattle.words_lines.specs.declared.Kind.{Kind}

@@ -1,8 +1,8 @@
 -- CODE. A stream line by line, as the line finder goes over it (RULES, "Lines").
 --   line_of, after_line     the first line of what is left, and what is left after it
 --   line_after             where the next line starts
-use Rattle.std.specs.Prelude.{ℕ, ◌+◌, ◌^◌, List, ltb}
-use Rattle.words.specs.Base.{if◌then◌else◌, take_until, beyond}
+use Rattle.std.specs.Prelude.{ℕ, ◌+◌, ◌^◌, List, ltb, if◌then◌else◌}
+use Rattle.words.specs.Base.{take_until, beyond}
 use Rattle.words_lines.specs.Directive.{is_end}
 
 -- the first line of what is left of a stream, and what is left after it

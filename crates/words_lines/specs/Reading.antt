@@ -1,7 +1,7 @@
 -- CODE. The names of a field of parameters, one by one (RULES, "Directives").
 --   next_name
-use Rattle.std.specs.Prelude.{ℕ, ◌+◌, List, ltb, length, drop}
-use Rattle.words.specs.Base.{if◌then◌else◌, take_until}
+use Rattle.std.specs.Prelude.{ℕ, ◌+◌, List, ltb, length, drop, if◌then◌else◌}
+use Rattle.words.specs.Base.{take_until}
 use Rattle.words.specs.Spelt.{word_of_name}
 use Rattle.words_lines.specs.Directive.{is_comma}
 use Rattle.words_lines.specs.declared.NameStep.{NameStep}

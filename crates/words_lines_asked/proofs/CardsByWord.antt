@@ -2,6 +2,7 @@
 --   a number is 0 where there is none              is-number, no_number, number_read_lem
 --   a card's number                                card-both, card-nameless, card-numberless, is-card, no-card, card-read
 --   an empty parameter                             empty, full
+use Rattle.std.specs.Prelude.{if◌then◌else◌}
 use mathlib.Core.Path.{◌≡◌, refl}
 use mathlib.Core.Bool.{Bool, true, false, ◌&&◌}
 use mathlib.Core.List.{List, [], ◌∷◌}
@@ -10,7 +11,7 @@ use native.Mathlib.Omega.{arith}
 use borrow.Author.Tests.{ltb-true}
 use lib.Dec.{eqb, leb}
 use lib.ListN.{length}
-use Rattle.words.specs.Base.{if◌then◌else◌, all, take_until, beyond}
+use Rattle.words.specs.Base.{all, take_until, beyond}
 use Rattle.words.specs.Display.{point}
 use Rattle.words.specs.Names.{is_name, is_digit, is_number, decimal, number_read}
 use Rattle.words.specs.Spelt.{word_of_name}

@@ -3,11 +3,12 @@
 --   one card            card-asked, card-refused
 --   one card or two     range-one, range-two, range-first, range_last; range-asked
 --   spoilt parameters   asks-spoilt
+use Rattle.std.specs.Prelude.{if◌then◌else◌}
 use mathlib.Core.Path.{◌≡◌, refl}
 use mathlib.Core.Bool.{Bool, true, false, ◌&&◌}
 use mathlib.Core.List.{List, []}
 use Prim.Native.Nat.{ℕ}
-use Rattle.words.specs.Base.{if◌then◌else◌, all, take_until, beyond}
+use Rattle.words.specs.Base.{all, take_until, beyond}
 use Rattle.words.specs.Names.{is_name, name_word, is_number}
 use Rattle.words.specs.Spelt.{word_of_name}
 use Rattle.words_lines.specs.Directive.{is_comma, params, is_card, card_named, one_name, one_card, range, asks}

@@ -1,8 +1,8 @@
 -- CODE. What fields of parameters hold, as they are read (RULES, "Directives").
 --   one name             not_empty, name_read
 --   cards                card_read, range_read
-use Rattle.std.specs.Prelude.{ℕ, Bool, ◌&&◌, not, List}
-use Rattle.words.specs.Base.{if◌then◌else◌, all, is_nil, take_until, beyond}
+use Rattle.std.specs.Prelude.{ℕ, Bool, ◌&&◌, not, List, if◌then◌else◌}
+use Rattle.words.specs.Base.{all, is_nil, take_until, beyond}
 use Rattle.words.specs.Names.{is_name, name_word}
 use Rattle.words_lines.specs.Directive.{is_comma, params, is_card, card_named}
 use Rattle.words_lines.specs.declared.CardName.{CardName}

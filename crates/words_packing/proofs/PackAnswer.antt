@@ -2,6 +2,7 @@
 --   packing               Leaves, pack-wide, pack-short, pack-done
 --   words as eight bytes  eights-odd, eights-even, eights-count
 --   unpacking             answer-length, answer-whole, answer-short, answer-tail, answer-last, Accepted, accepted
+use Rattle.std.specs.Prelude.{if◌then◌else◌}
 use mathlib.Core.Path.{◌≡◌, refl, ap}
 use mathlib.Core.Bool.{Bool, true, false, not}
 use mathlib.Core.List.{List, ◌++◌}
@@ -10,7 +11,7 @@ use native.Mathlib.Omega.{arith}
 use lib.Dec.{ltb}
 use lib.ListN.{length, get_or, drop}
 use borrow.Author.Tests.{ltb-false, lt-ltb, le-ltb, le-leb, lt-leb, eq-eqb, ne_eqb}
-use Rattle.words.specs.Base.{if◌then◌else◌, all}
+use Rattle.words.specs.Base.{all}
 use Rattle.words_packing.specs.Pack.{packed, packed_length, packing, pack_into, space_after, is_packed_length, has_tail, unpacked_length, unpacking, words_from, words_of_eights, packing_eights, pack_eights_into}
 use Rattle.words.specs.Base.{is_word}
 use Rattle.words_packing.specs.declared.Packing.{Packing}

@@ -5,8 +5,8 @@
 --   the space               space_after
 --   words as eight bytes    low_bytes, eights, low_number, words_from, words_of_eights, packing_eights, pack_eights_into, times_eight, unpacking_eights, unpack_eights_into
 --   the table's numbers     packing_number, packing_value
-use Rattle.std.specs.Prelude.{ℕ, zero, suc, ◌+◌, ◌-◌, ◌*◌, ◌/◌, ◌%◌, ◌^◌, Bool, ◌&&◌, ◌||◌, not, List, [], ◌∷◌, ◌++◌, eqb, ltb, leb, length, get_or, take, drop}
-use Rattle.words.specs.Base.{if◌then◌else◌, all, is_word}
+use Rattle.std.specs.Prelude.{ℕ, zero, suc, ◌+◌, ◌-◌, ◌*◌, ◌/◌, ◌%◌, ◌^◌, Bool, ◌&&◌, ◌||◌, not, List, [], ◌∷◌, ◌++◌, eqb, ltb, leb, length, get_or, take, drop, if◌then◌else◌}
+use Rattle.words.specs.Base.{all, is_word}
 use Rattle.words_packing.specs.declared.Packing.{Packing}
 use Rattle.words_packing.specs.declared.Packing.TheVariants.{Done, Length, Tail, Space}
 

@@ -1,8 +1,8 @@
 -- MEANING. What compressing a line answers (RULES, "Text", "Lines"; rows 20 and 21).
 --   line to words          compressing, compress_into
 --   the table's numbers    compressed_number
-use Rattle.std.specs.Prelude.{ℕ, not, List, ◌++◌, ltb, length, drop}
-use Rattle.words.specs.Base.{if◌then◌else◌, all}
+use Rattle.std.specs.Prelude.{ℕ, not, List, ◌++◌, ltb, length, drop, if◌then◌else◌}
+use Rattle.words.specs.Base.{all}
 use Rattle.words.specs.Display.{in_chart}
 use Rattle.words.specs.Text.{text_words}
 use Rattle.words_text_compress.specs.declared.Compressed.{Compressed}

@@ -1,8 +1,7 @@
 -- MEANING. What expanding words answers (RULES, "Text"; row 6).
 --   words to line          expanding, expand_into
 --   the table's numbers    expanded_number
-use Rattle.std.specs.Prelude.{ℕ, List, ◌++◌, length, drop}
-use Rattle.words.specs.Base.{if◌then◌else◌}
+use Rattle.std.specs.Prelude.{ℕ, List, ◌++◌, length, drop, if◌then◌else◌}
 use Rattle.words.specs.Text.{says, is_text}
 use Rattle.words_text_expand.specs.declared.Expanded.{Expanded}
 use Rattle.words_text_expand.specs.declared.Expanded.TheVariants.{Columns, NoText}

@@ -3,8 +3,7 @@
 --   one code                   second_says, code_says, ahead_after
 --   codes                      codes_say, state_after
 --   words                      word_says, word_ahead
-use Rattle.std.specs.Prelude.{ℕ, ◌+◌, List, [], ◌∷◌, ◌++◌, eqb, replicate}
-use Rattle.words.specs.Base.{if◌then◌else◌}
+use Rattle.std.specs.Prelude.{ℕ, ◌+◌, List, [], ◌∷◌, ◌++◌, eqb, replicate, if◌then◌else◌}
 use Rattle.words.specs.Display.{letter, blank}
 use Rattle.words.specs.Text.{low_codes}
 

@@ -1,4 +1,5 @@
 -- Codes that are taken one by one are those that their line is written in. Assumes nothing.
+use Rattle.std.specs.Prelude.{if◌then◌else◌}
 use Prim.Native.Nat.{ℕ, zero, suc, ◌+◌, ◌*◌, ◌≤◌, ◌<◌}
 use native.Mathlib.Omega.{arith}
 use mathlib.Core.Path.{◌≡◌, refl, sym, ap, ◌∙◌, subst}
@@ -7,7 +8,7 @@ use mathlib.Core.List.{List, [], ◌∷◌, ◌++◌, append_assoc}
 use borrow.Author.Tests.{ne_eqb, eqb-true, lt-ltb, le-ltb}
 use lib.Dec.{T, eqb, ltb, ltb→lt}
 use lib.ListN.{length, replicate, length-append, length-replicate}
-use Rattle.words.specs.Base.{if◌then◌else◌, all}
+use Rattle.words.specs.Base.{all}
 use Rattle.words.specs.Text.{gap, blanks, sign, squeeze, compress, columns_of}
 use Rattle.words_text_form.specs.Form.{full, one, free, signed, start, ended, pair_or_end, pair_next, colon_next, refused, step, second_code, columns_in, after, count, may_end}
 use Rattle.words.proofs.TestParts.{true-T, and_left, and_right}

@@ -1,4 +1,5 @@
 -- The codes that a line is written in are taken one by one. Assumes nothing.
+use Rattle.std.specs.Prelude.{if◌then◌else◌}
 use Prim.Native.Nat.{ℕ, zero, suc, ◌+◌, ◌-◌, ◌*◌, ◌/◌, ◌^◌, ◌<◌}
 use native.Mathlib.Omega.{arith}
 use native.Mathlib.Nat.{mul-lt-mul_of_pos_right}
@@ -8,7 +9,6 @@ use mathlib.Core.List.{List, [], ◌∷◌, ◌++◌, append_assoc}
 use borrow.Author.Tests.{ne_eqb}
 use lib.Dec.{T, eqb, ltb, T_not}
 use lib.ListN.{replicate}
-use Rattle.words.specs.Base.{if◌then◌else◌}
 use Rattle.words.specs.Text.{gap, short_run, long_runs, blanks, sign, squeeze, compress, fill, words_of}
 use Rattle.words_text_form.specs.Form.{full, one, free, signed, start, ended, pair_or_end, pair_next, step, after, may_end, ends_full}
 use Rattle.words.proofs.TrimmedLine.{ends_well}

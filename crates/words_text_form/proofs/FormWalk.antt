@@ -1,4 +1,5 @@
 -- A text walked code by code: what is known after each code and each word. Assumes nothing.
+use Rattle.std.specs.Prelude.{if◌then◌else◌}
 use Prim.Native.Nat.{ℕ, suc, ◌+◌, ◌-◌, ◌*◌, ◌/◌, ◌%◌, ◌^◌, ◌≤◌, ◌<◌}
 use native.Mathlib.Omega.{arith}
 use mathlib.Core.Path.{◌≡◌, refl, sym, ap, ◌∙◌}
@@ -7,7 +8,7 @@ use mathlib.Core.List.{List, [], ◌∷◌, ◌++◌}
 use borrow.Author.Tests.{lt-ltb, le-ltb}
 use lib.Dec.{eqb, ltb, leb, leb→le}
 use lib.ListN.{length, get_or, drop, drop_of_length-le}
-use Rattle.words.specs.Base.{if◌then◌else◌, all, is_word}
+use Rattle.words.specs.Base.{all, is_word}
 use Rattle.words.specs.Text.{low_codes, all_codes, says, is_text}
 use Rattle.words_text_form.specs.Form.{start, pair_or_end, step, columns_in, after, count, may_end, after_word, count_word, ends_full, in_form}
 use Rattle.words_text_form.proofs.TopCodes.{top_codes, top-word, word-parted}

@@ -1,4 +1,5 @@
 -- Words are text where their codes are in the one right form. Assumes nothing.
+use Rattle.std.specs.Prelude.{if◌then◌else◌}
 use Prim.Native.Nat.{ℕ, zero, suc, ◌+◌, ◌/◌, ◌%◌, ◌≤◌}
 use native.Mathlib.Omega.{arith}
 use mathlib.Core.Path.{◌≡◌, refl, sym, ap, ap₂, ◌∙◌, subst}
@@ -7,7 +8,7 @@ use mathlib.Core.List.{List, [], ◌∷◌, map}
 use borrow.Author.Tests.{ne_eqb, eq-eqb}
 use lib.Dec.{T, eqb, leb, ltb→lt, lt→ltb, leb→le, le→leb, T_not}
 use lib.ListN.{length, get_or, replicate, length-map}
-use Rattle.words.specs.Base.{if◌then◌else◌, all, same, is_nil, is_word}
+use Rattle.words.specs.Base.{all, same, is_nil, is_word}
 use Rattle.words.specs.Display.{code_of, in_chart, letter, blank}
 use Rattle.words.specs.Text.{trim, gap, compress, words_of, low_codes, all_codes, columns_of, text_words, says, is_text}
 use Rattle.words_text_form.specs.Form.{start, after, count, may_end, ends_full, in_form}

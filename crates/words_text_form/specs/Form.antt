@@ -3,8 +3,8 @@
 --   one code             zero_after, gap_after, first_code, end_after, second_code, fill_after, step, fields_from, fields_of, columns_in
 --   codes                after, count, may_end
 --   words                after_word, count_word, ends_full, in_form
-use Rattle.std.specs.Prelude.{ℕ, zero, suc, ◌+◌, ◌*◌, Bool, true, ◌&&◌, not, List, [], ◌∷◌, eqb, ltb, leb}
-use Rattle.words.specs.Base.{if◌then◌else◌, all, is_word}
+use Rattle.std.specs.Prelude.{ℕ, zero, suc, ◌+◌, ◌*◌, Bool, true, ◌&&◌, not, List, [], ◌∷◌, eqb, ltb, leb, if◌then◌else◌}
+use Rattle.words.specs.Base.{all, is_word}
 use Rattle.words.specs.Text.{gap, low_codes, all_codes}
 
 -- WHAT MAY FOLLOW

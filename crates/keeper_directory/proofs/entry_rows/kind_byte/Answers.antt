@@ -1,8 +1,8 @@
 -- A purged entry is told by its word.
+use Rattle.std.specs.Prelude.{if◌then◌else◌}
 use mathlib.Core.Path.{sym, ap}
 use mathlib.Core.Bool.{Bool}
 use borrow.Author.Tests.{eq-eqb, ne_eqb}
-use Rattle.words.specs.Base.{if◌then◌else◌}
 use Rattle.keeper_directory.proofs.entry_rows.kind_byte.Goals as goal
 
 pub returns-then-w-eq-PURGED : goal.returns-then-w-eq-PURGED

@@ -1,7 +1,7 @@
 -- Each field is that of the definition.
+use Rattle.std.specs.Prelude.{if◌then◌else◌}
 use Rattle.library_image.specs.Places.{next_at}
 use Rattle.library_image.proofs.CardPlaces.{bound-over}
-use Rattle.words.specs.Base.{if◌then◌else◌}
 use lib.ListN.{length}
 use lib.Dec.{leb, eqb}
 use native.Mathlib.Omega.{arith}

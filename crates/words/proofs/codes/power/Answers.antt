@@ -1,10 +1,10 @@
 -- `codes::power` is right because a shift by six bits is a factor of 64. Assumes nothing.
+use Rattle.std.specs.Prelude.{if◌then◌else◌}
 use Prim.Native.Nat.{◌^◌}
 use mathlib.Core.Path.{sym, ap, ◌∙◌}
 use mathlib.Core.Bool.{Bool}
 use native.Mathlib.Omega.{arith}
 use borrow.Author.Tests.{lt-ltb, le-ltb}
-use Rattle.words.specs.Base.{if◌then◌else◌}
 use Rattle.words.proofs.Powers.{shifted}
 use Rattle.words.proofs.codes.power.Goals as goal
 
