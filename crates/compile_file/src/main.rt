@@ -1,7 +1,7 @@
 // The compile program (RULES, "The compile program"): a packed library on standard input; on standard output its compile file, or the line of its refusal.
 #![tactic(auto)]
 
-ghost use Rattle.std.specs.Prelude.{◌≡◌, ◌≤◌, ◌++◌, length, drop, IfOk};
+ghost use Rattle.std.specs.Prelude.{◌≡◌, ◌≤◌, ◌<◌, ◌++◌, length, drop, IfOk, OnErr};
 ghost use Rattle.compile_file.specs.Written.{Wrote};
 ghost use Rattle.words_packing.specs.Pack.{unpacking, unpacked};
 ghost use Rattle.compile.specs.Compile.{compiling, program_of, after_unpacking, program};
@@ -81,7 +81,8 @@ fn write(rt: &impl Print, input: &[u8]) -> io::Result<()> {
 // Reads until the buffer is full or the input ends: how many bytes it put at the buffer's start. The one error is that of a read; the buffer's bytes may
 // then be any.
 fn read_full<R: Read>(reader: &mut R, buf: &mut [u8]) -> io::Result<usize>
-    ensures { IfOk result (λ n. n ≤ length buf.new) }
+    ensures within { IfOk result (λ n. n ≤ length buf.new) }
+    ensures not_empty { OnErr result (0 < length buf.old) }
 {
     let mut done = 0;
     while done < buf.len() {
