@@ -15,25 +15,27 @@ use Rattle.library.specs.Image.{cards_words, decks_words, header, counts, tables
 use Rattle.library.specs.Check.{Checking, good, bad, check, checked}
 use Rattle.library.specs.Sound.{Sound}
 use Rattle.library.specs.Readable.{Readable}
-use Rattle.library.specs.declared.Fault.{Fault}
-use Rattle.library.specs.declared.Checked.TheVariants.{Sound as Accepts, Refused as Rejects}
+use Rattle.library.specs.declared.Refusal.{Refusal}
+use Rattle.std.specs.Prelude.{Ok, Err}
 use Rattle.library.proofs.CheckEncode.{check-encode}
 use Rattle.library.proofs.CheckSound.{check_sound}
 use Rattle.library.proofs.LimitsByCount.{words, encode-length, Small, within-small}
 
-pub accepted-is : (ws : List ℕ) → checked (check ws) ≡ Accepts → (l : Library) × (check ws ≡ good l)
+pub accepted-is : (ws : List ℕ) → checked (check ws) ≡ Ok tt → (l : Library) × (check ws ≡ good l)
 accepted-is ws e = go (check ws) refl e
   where
-    go : (x : Checking) → check ws ≡ x → checked x ≡ Accepts → (l : Library) × (check ws ≡ good l)
+    go : (x : Checking) → check ws ≡ x → checked x ≡ Ok tt → (l : Library) × (check ws ≡ good l)
     go (good l) q h = (l, q)
-    go (bad f p) q h = absurd (let z : ◌≡◌ {A = ℕ} 0 1 = cc in omega arith)
+    go (bad f p) q h = absurd cc
 
-pub rejected-is : (ws : List ℕ) (f : Fault) (p : ℕ) → checked (check ws) ≡ Rejects f p → check ws ≡ bad f p
-rejected-is ws f p e = go (check ws) refl e
+pub rejected-is : (ws : List ℕ) (r : Refusal) → checked (check ws) ≡ Err r → check ws ≡ bad r.fault r.place
+rejected-is ws r e = go (check ws) refl e
   where
-    go : (x : Checking) → check ws ≡ x → checked x ≡ Rejects f p → check ws ≡ bad f p
-    go (good l) q h = absurd (let z : ◌≡◌ {A = ℕ} 0 1 = cc in omega arith)
-    go (bad g n) q h = let a : g ≡ f = cc in let b : n ≡ p = cc in q ∙ (λ i. bad (a i) (b i))
+    go : (x : Checking) → check ws ≡ x → checked x ≡ Err r → check ws ≡ bad r.fault r.place
+    go (good l) q h = absurd cc
+    go (bad g n) q h =
+        let e : record { fault = g; place = n } ≡ r = cc in
+        q ∙ ap (λ (s : Refusal). bad s.fault s.place) e
 
 module _ (ws : List ℕ) (l : Library) (ok : check ws ≡ good l) where
   abbrev n : ℕ

@@ -5,7 +5,7 @@
 --   rows 5 and 6       Stored, is_last_word, threes, raw_bytes, used, byte_of, Fields, fields_of, card_of, rising, ok_byte, first_activates, form_tests, ok_form, Cards, also, stored_of, read_card, read_cards
 --   rows over cards    is_deck_line, is_deck_card, ok_deck_card, row7, first_failing, ahead_of_decks, ok_target, ok_yank, row8, shares_both, row10_from, row10, ok_bits, row9_from, row9
 --   the check          Parted, part_at, parted_by, library_of, check_cards, check
-use Rattle.std.specs.Prelude.{ℕ, zero, suc, ◌+◌, ◌/◌, ◌%◌, ◌^◌, Bool, true, false, ◌&&◌, ◌||◌, not, List, [], ◌∷◌, map, eqb, ltb, leb, length, get_or, take, drop, if◌then◌else◌}
+use Rattle.std.specs.Prelude.{ℕ, zero, suc, ◌+◌, ◌/◌, ◌%◌, ◌^◌, Bool, true, false, ◌&&◌, ◌||◌, not, List, [], ◌∷◌, map, eqb, ltb, leb, length, get_or, take, drop, Result, Ok, Err, if◌then◌else◌}
 use Rattle.std.specs.Bool.{beq}
 use Rattle.std.proofs.Math.Option.{Option, none, some}
 use Rattle.words.specs.Base.{any, all, all_of, any_of, member, same, is_nil, place_from}
@@ -18,17 +18,16 @@ use Rattle.library.specs.Yanks.{Target, whole_set, is_yank, targets, active, yan
 use Rattle.library.specs.Image.{header, byte_bits, head_words}
 use Rattle.library.specs.declared.Fault.{Fault}
 use Rattle.library.specs.declared.Fault.TheVariants.{Size, Header, Tables, Name, Form, Text, Decks, Yank as YankFault, Bit, Twice}
-use Rattle.library.specs.declared.Checked.{Checked}
-use Rattle.library.specs.declared.Checked.TheVariants.{Sound, Refused}
+use Rattle.library.specs.declared.Refusal.{Refusal}
 
 -- ANSWERS: the library that was read, or the row and the place
 pub data Checking : Type 0 where
   good : Library → Checking
   bad : Fault → ℕ → Checking
 
-abbrev pub checked : Checking → Checked
-checked (good l) = Sound
-checked (bad f p) = Refused f p
+abbrev pub checked : Checking → Result (Unit {0}) Refusal
+checked (good l) = Ok tt
+checked (bad f p) = Err (record { fault = f; place = p })
 
 abbrev pub fault_number : Fault → ℕ
 fault_number Size = 1
@@ -42,13 +41,13 @@ fault_number YankFault = 8
 fault_number Bit = 9
 fault_number Twice = 10
 
-abbrev pub checked_number : Checked → ℕ
-checked_number Sound = 0
-checked_number (Refused f p) = fault_number f
+abbrev pub checked_number : Result (Unit {0}) Refusal → ℕ
+checked_number (Ok u) = 0
+checked_number (Err r) = fault_number r.fault
 
-abbrev pub checked_place : Checked → ℕ
-checked_place Sound = 0
-checked_place (Refused f p) = p
+abbrev pub checked_place : Result (Unit {0}) Refusal → ℕ
+checked_place (Ok u) = 0
+checked_place (Err r) = r.place
 
 -- a row's fault, or what comes after it
 abbrev pub or_else : Fault → Option ℕ → Checking → Checking

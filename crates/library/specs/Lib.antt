@@ -10,6 +10,7 @@ pub mod Exact
 pub mod Growth
 pub mod Alike
 pub mod Asked
+pub mod Refused
 pub mod Counts
 pub mod Readable
 pub mod WordForm

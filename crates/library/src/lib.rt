@@ -3,6 +3,7 @@
 
 ghost use Rattle.std.specs.Prelude.{◌≡◌};
 ghost use Rattle.library.specs.Check.{fault_number, checked_number, checked_place};
+ghost use Rattle.library.specs.Refused.{refused_at};
 
 mod asks;
 mod fixed;
@@ -18,7 +19,7 @@ pub use layout::{
 pub use limits::within_limits;
 
 // Why an image is no library: rows 1 to 10 of the table.
-#[derive(Clone, Copy)]
+#[derive(Clone, Copy, PartialEq, Eq)]
 pub enum Fault {
     // too few words or too many, or a number that is no word
     Size,
@@ -42,18 +43,11 @@ pub enum Fault {
     Twice,
 }
 
-// What the check answers: the fault and the word where it stands.
-#[derive(Clone, Copy)]
-pub enum Checked {
-    Sound,
-    Refused(Fault, usize),
-}
-
-// What is looked for in words: where it stands, or that it does not.
-#[derive(Clone, Copy)]
-pub enum Found {
-    At(usize),
-    Nothing,
+// A refusal of the check: the fault and the word where it stands.
+#[derive(Clone, Copy, PartialEq, Eq)]
+pub struct Refusal {
+    pub fault: Fault,
+    pub place: usize,
 }
 
 // What is seen of a card: where its text starts and ends, its owner and number, whether its bit says active.
@@ -93,20 +87,32 @@ pub fn fault_number(fault: Fault) -> u64
     }
 }
 
-pub fn checked_number(c: Checked) -> u64
-    ensures { result ≡ checked_number c }
+// What a row answers whose fault stands at a place, or nowhere.
+pub fn refuse(fault: Fault, place: Option<usize>) -> Result<(), Refusal>
+    ensures { result ≡ refused_at fault place }
 {
-    match c {
-        Checked::Sound => 0,
-        Checked::Refused(fault, _) => fault_number(fault),
+    match place {
+        Some(place) => Err(Refusal { fault, place }),
+        None => Ok(()),
     }
 }
 
-pub fn checked_place(c: Checked) -> u64
+// The table's number of what the check answers; 0 where it accepts.
+pub fn checked_number(c: Result<(), Refusal>) -> u64
+    ensures { result ≡ checked_number c }
+{
+    match c {
+        Ok(()) => 0,
+        Err(r) => fault_number(r.fault),
+    }
+}
+
+// The place of a refusal, or 0.
+pub fn checked_place(c: Result<(), Refusal>) -> u64
     ensures { result ≡ checked_place c }
 {
     match c {
-        Checked::Sound => 0,
-        Checked::Refused(_, place) => place as u64,
+        Ok(()) => 0,
+        Err(r) => r.place as u64,
     }
 }
