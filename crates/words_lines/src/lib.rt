@@ -67,11 +67,11 @@ pub enum Call {
     Malformed,
 }
 
-// What stands at a place of a field of names: a name's word, 0 where it is no name, and the next place; or no more.
-#[derive(Clone, Copy)]
-pub enum NameStep {
-    Name { word: u64, next: usize },
-    End,
+// What stands at a place of a field of names: a name's word, 0 where it is no name, and the next place.
+#[derive(Clone, Copy, PartialEq, Eq)]
+pub struct NameAt {
+    pub word: u64,
+    pub next: usize,
 }
 
 // What a search stops at.

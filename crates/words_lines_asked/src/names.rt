@@ -6,7 +6,7 @@ ghost use Rattle.words_lines.specs.Directive.{params};
 ghost use Rattle.words_lines.specs.Reading.{next_name};
 ghost use Rattle.words_lines_asked.specs.Parameters.{not_empty, name_read, card_read, range_read};
 
-use words_lines::{CardName, NameStep, Stop, part_after, part_at};
+use words_lines::{CardName, NameAt, Stop, part_after, part_at};
 
 // What a field that is to hold one name holds.
 #[derive(Clone, Copy)]
@@ -25,34 +25,30 @@ pub(crate) enum Range {
 }
 
 // The name at a place of a field: one after another, from 0 on.
-pub fn next_name(field: &[u8], at: usize) -> NameStep
+pub fn next_name(field: &[u8], at: usize) -> Option<NameAt>
     ensures { result ≡ next_name field.now at }
 {
     if field.len() < at {
-        return NameStep::End;
+        return None;
     }
     let p = part_at(field, at, Stop::Parameter);
-    NameStep::Name {
+    Some(NameAt {
         word: words_names::word_of_name(p),
         next: at + (p.len() + 1),
-    }
+    })
 }
 
 pub(crate) fn all_names(field: &[u8]) -> bool
     ensures { result ≡ all is_name (params field.now) }
 {
     let mut at = 0;
-    loop {
-        match next_name(field, at) {
-            NameStep::Name { word, next } => {
-                if word == 0 {
-                    return false;
-                }
-                at = next;
-            }
-            NameStep::End => return true,
+    while let Some(n) = next_name(field, at) {
+        if n.word == 0 {
+            return false;
         }
+        at = n.next;
     }
+    true
 }
 
 fn none_empty(field: &[u8]) -> bool

@@ -5,17 +5,10 @@ ghost use Rattle.words.specs.Display.{in_chart};
 ghost use Rattle.words.specs.Text.{text_words};
 ghost use Rattle.words_text_compress.specs.Answers.{compressing, compress_into, compressed_number};
 
-use crate::Compressed;
+use crate::LineRefused;
 use crate::codes::fill;
 use crate::line::put_line;
 use words::{in_set, trimmed};
-
-// the table's numbers
-const DONE: u64 = 0;
-
-const OUTSIDE: u64 = 20;
-
-const LONG: u64 = 21;
 
 // the most words and columns of a text
 const WORDS: usize = 16;
@@ -38,25 +31,27 @@ fn write(line: &[u8], text: &mut [u64]) -> usize
     fill(&codes[..n], text)
 }
 
-pub fn compress(line: &[u8], text: &mut [u64; WORDS]) -> Compressed
+// How many words were written, or why none was.
+pub fn compress(line: &[u8], text: &mut [u64; WORDS]) -> Result<usize, LineRefused>
     ensures value { result ≡ compressing line.now }
     ensures text_after { text.new ≡ compress_into line.now text.old }
 {
     if !in_set(line) {
-        return Compressed::Outside;
+        return Err(LineRefused::Outside);
     }
     if COLUMNS < line.len() {
-        return Compressed::Long;
+        return Err(LineRefused::Long);
     }
-    Compressed::Words(write(line, text))
+    Ok(write(line, text))
 }
 
-pub fn compressed_number(c: Compressed) -> u64
+// The table's numbers.
+pub fn compressed_number(c: Result<usize, LineRefused>) -> u64
     ensures { result ≡ compressed_number c }
 {
     match c {
-        Compressed::Words(_) => DONE,
-        Compressed::Outside => OUTSIDE,
-        Compressed::Long => LONG,
+        Ok(_) => 0,
+        Err(LineRefused::Outside) => 20,
+        Err(LineRefused::Long) => 21,
     }
 }

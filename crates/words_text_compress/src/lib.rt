@@ -7,10 +7,9 @@ mod line;
 
 pub use compressing::{compress, compressed_number};
 
-// What compressing a line answers: how many words were written, or why not.
-#[derive(Clone, Copy)]
-pub enum Compressed {
-    Words(usize),
+// Why a line is not compressed.
+#[derive(Clone, Copy, PartialEq, Eq)]
+pub enum LineRefused {
     // a byte that is no character
     Outside,
     // over 80 columns
