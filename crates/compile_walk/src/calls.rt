@@ -3,74 +3,64 @@ ghost use Rattle.std.specs.Prelude.{◌≡◌, ◌<◌};
 ghost use Rattle.compile_walk.specs.Steps.{find_row, open_at, asked_of};
 
 use crate::Stop;
-use library_image_decks::{COMMON, FROM, KIND, ROW, TO};
+use library_image_decks::COMMON;
 use words_lines::Call;
 
 // so many calls are opened at most
 const MOST_CALLS: usize = 4096;
 
-// Where a called deck's cards stand.
-#[derive(Clone, Copy)]
-pub(crate) enum Place {
-    Missing,
-    // YANK$$$, or a normal deck
-    Normal,
-    Cards(usize, usize),
+// Where the cards of a deck stand, from a place up to another.
+#[derive(Clone, Copy, PartialEq, Eq)]
+pub(crate) struct Cards {
+    pub(crate) from: usize,
+    pub(crate) to: usize,
 }
 
-// What a line asks for: to be written, a refusal, or the cards of a common deck.
-#[derive(Clone, Copy)]
-pub(crate) enum Asked {
-    Text,
-    Stopped(Stop),
-    Opened(usize, usize),
-}
-
-// The deck of this name, from the table.
-fn find_row(table: &[u64], w: u64) -> Place
+// The cards of the deck of this name, from the table: 40 where there is none, 41 where it is YANK$$$ or a normal one.
+fn find_row(table: &[u64], w: u64) -> Result<Cards, Stop>
     ensures { result ≡ find_row w table.now }
 {
     if w == library::reserved_word() {
-        return Place::Normal;
+        return Err(Stop::NotCommon);
     }
-    let mut i = 0;
-    while i + KIND < table.len() {
-        if table[i] == w {
-            if table[i + KIND] == COMMON {
-                return Place::Cards(table[i + FROM] as usize, table[i + TO] as usize);
+    let mut rows = table;
+    while let [name, from, to, kind, more @ ..] = rows {
+        if *name == w {
+            if *kind == COMMON {
+                return Ok(Cards { from: *from as usize, to: *to as usize });
             }
-            return Place::Normal;
+            return Err(Stop::NotCommon);
         }
-        i += ROW;
+        rows = more;
     }
-    Place::Missing
+    Err(Stop::NoDeck)
 }
 
-// A deck that was looked up, with so many levels left: 42 where there is none, then 43.
-fn open_at(place: Place, depth: usize, calls: usize) -> Asked
-    ensures { result ≡ open_at place depth calls }
+// A deck that was found, with so many levels left: 42 where there is none, then 43.
+fn open_at(cards: Cards, depth: usize, calls: usize) -> Result<Option<Cards>, Stop>
+    ensures { result ≡ open_at cards depth calls }
 {
-    match place {
-        Place::Missing => Asked::Stopped(Stop::NoDeck),
-        Place::Normal => Asked::Stopped(Stop::NotCommon),
-        Place::Cards(from, to) => {
-            if depth == 0 {
-                return Asked::Stopped(Stop::Deep);
-            }
-            if calls < MOST_CALLS {
-                return Asked::Opened(from, to);
-            }
-            Asked::Stopped(Stop::Many)
-        }
+    if depth == 0 {
+        return Err(Stop::Deep);
     }
+    if calls < MOST_CALLS {
+        return Ok(Some(cards));
+    }
+    Err(Stop::Many)
 }
 
-pub(crate) fn asks(table: &[u64], line: &[u8], depth: usize, calls: usize) -> Asked
+// What a line asks for: the cards of a common deck, or nothing, and then it is written.
+pub(crate) fn asks(
+    table: &[u64],
+    line: &[u8],
+    depth: usize,
+    calls: usize,
+) -> Result<Option<Cards>, Stop>
     ensures { result ≡ asked_of table.now line.now depth calls }
 {
     match words_lines::call_of(line) {
-        Call::Not => Asked::Text,
-        Call::Malformed => Asked::Stopped(Stop::NoDeck),
-        Call::Of(w) => open_at(find_row(table, w), depth, calls),
+        Call::Not => Ok(None),
+        Call::Malformed => Err(Stop::NoDeck),
+        Call::Of(w) => open_at(find_row(table, w)?, depth, calls),
     }
 }

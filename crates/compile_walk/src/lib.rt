@@ -8,7 +8,7 @@ mod walk;
 pub use walk::walk_decks;
 
 // Why a compile file is refused: rows 40 to 44 of the table.
-#[derive(Clone, Copy)]
+#[derive(Clone, Copy, PartialEq, Eq)]
 pub enum Stop {
     // a CALL that is malformed, or of no deck
     NoDeck,
@@ -22,9 +22,17 @@ pub enum Stop {
     Space,
 }
 
-// What a walk answers: how many lines and calls there were so far, or the row and the card.
-#[derive(Clone, Copy)]
-pub enum Walked {
-    On(usize, usize),
-    Halted(Stop, u64, u64),
+// How many lines and calls there were so far.
+#[derive(Clone, Copy, PartialEq, Eq)]
+pub struct Counts {
+    pub lines: usize,
+    pub calls: usize,
+}
+
+// Where a walk is refused: the row, and the card by its owner and number.
+#[derive(Clone, Copy, PartialEq, Eq)]
+pub struct Halt {
+    pub stop: Stop,
+    pub owner: u64,
+    pub seq: u64,
 }

@@ -4,7 +4,7 @@
 --   over images      Merging, fitted_in, from_shared, merge_checked, merging
 --   the answer       merged, merged_number, merged_value, merged_which, merge_into
 -- What is raised and by how much: raise_byte, raise_card, raise_deck (library_raise/specs/RaisedCards.antt).
-use Rattle.std.specs.Prelude.{ℕ, not, List, ◌++◌, map, ltb, length, drop, if◌then◌else◌}
+use Rattle.std.specs.Prelude.{ℕ, not, List, ◌++◌, map, ltb, length, drop, if◌then◌else◌, Result, Ok, Err}
 use Rattle.std.proofs.Math.Option.{Option, none, some}
 use Rattle.words.specs.Base.{place_from}
 use Rattle.library.specs.Library.{Library, has_name}
@@ -12,8 +12,8 @@ use Rattle.library.specs.Image.{encode, within_limits}
 use Rattle.library.specs.Check.{Checking, good, bad, check, fault_number}
 use Rattle.library.specs.declared.Fault.{Fault}
 use Rattle.library_raise.specs.RaisedCards.{raise_card, raise_deck}
-use Rattle.merge_meaning.specs.declared.Merged.{Merged}
-use Rattle.merge_meaning.specs.declared.Merged.TheVariants.{Done, First, Second, Shared, Limit, Space}
+use Rattle.merge_meaning.specs.declared.MergeRefused.{MergeRefused}
+use Rattle.merge_meaning.specs.declared.MergeRefused.TheVariants.{First, Second, Shared, Limit, Space}
 
 -- each part of the second comes after that part of the first, and its numbers go on where the first's directory ends
 abbrev pub merge : Library → Library → Library
@@ -52,13 +52,13 @@ unfoldable pub merging : List ℕ → List ℕ → ℕ → Merging
 merging first second room = merge_checked room (check first) (check second)
 
 -- THE ANSWER, and what the lent space then holds
-abbrev pub merged : Merging → Merged
-merged (one_library l) = Done (length (encode l))
-merged (bad_first f p) = First f p
-merged (bad_second f p) = Second f p
-merged (shared_at p) = Shared p
-merged over_limit = Limit
-merged no_room = Space
+abbrev pub merged : Merging → Result ℕ MergeRefused
+merged (one_library l) = Ok (length (encode l))
+merged (bad_first f p) = Err (First (record { fault = f; place = p }))
+merged (bad_second f p) = Err (Second (record { fault = f; place = p }))
+merged (shared_at p) = Err (Shared p)
+merged over_limit = Err Limit
+merged no_room = Err Space
 
 abbrev pub merge_into : Merging → List ℕ → List ℕ
 merge_into (one_library l) space = encode l ++ drop (length (encode l)) space
@@ -69,26 +69,26 @@ merge_into over_limit space = space
 merge_into no_room space = space
 
 -- THE NUMBERS: the row; the words written, or the place; which of the two libraries is at fault, 0 where it is neither
-abbrev pub merged_number : Merged → ℕ
-merged_number (Done n) = 0
-merged_number (First f p) = fault_number f
-merged_number (Second f p) = fault_number f
-merged_number (Shared p) = 37
-merged_number Limit = 31
-merged_number Space = 32
+abbrev pub merged_number : Result ℕ MergeRefused → ℕ
+merged_number (Ok n) = 0
+merged_number (Err (First r)) = fault_number r.fault
+merged_number (Err (Second r)) = fault_number r.fault
+merged_number (Err (Shared p)) = 37
+merged_number (Err Limit) = 31
+merged_number (Err Space) = 32
 
-abbrev pub merged_value : Merged → ℕ
-merged_value (Done n) = n
-merged_value (First f p) = p
-merged_value (Second f p) = p
-merged_value (Shared p) = p
-merged_value Limit = 0
-merged_value Space = 0
+abbrev pub merged_value : Result ℕ MergeRefused → ℕ
+merged_value (Ok n) = n
+merged_value (Err (First r)) = r.place
+merged_value (Err (Second r)) = r.place
+merged_value (Err (Shared p)) = p
+merged_value (Err Limit) = 0
+merged_value (Err Space) = 0
 
-abbrev pub merged_which : Merged → ℕ
-merged_which (Done n) = 0
-merged_which (First f p) = 1
-merged_which (Second f p) = 2
-merged_which (Shared p) = 2
-merged_which Limit = 0
-merged_which Space = 0
+abbrev pub merged_which : Result ℕ MergeRefused → ℕ
+merged_which (Ok n) = 0
+merged_which (Err (First r)) = 1
+merged_which (Err (Second r)) = 2
+merged_which (Err (Shared p)) = 2
+merged_which (Err Limit) = 0
+merged_which (Err Space) = 0
