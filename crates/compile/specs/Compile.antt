@@ -4,21 +4,21 @@
 --   the answer           compiled, file_of, compile_into
 --   the table's numbers  stop_number, compiled_number, compiled_first, compiled_second
 --   the program          refused_line, card_place, program_of, program_space, after_unpacking, program
-use Rattle.std.specs.Prelude.{ℕ, ◌*◌, ◌/◌, List, [], ◌∷◌, ◌++◌, ltb, length, drop, if◌then◌else◌}
+use Rattle.std.specs.Prelude.{ℕ, ◌*◌, ◌/◌, List, [], ◌∷◌, ◌++◌, ltb, length, drop, if◌then◌else◌, Result, Ok, Err}
 use Rattle.words.specs.Base.{bytes}
 use Rattle.words.specs.Display.{blank}
 use Rattle.words.specs.Names.{numeral}
 use Rattle.words_packing.specs.Pack.{unpacking, unpacked, packing_number}
-use Rattle.words_packing.specs.declared.Packing.{Packing}
-use Rattle.words_packing.specs.declared.Packing.TheVariants.{Done as Unpacked, Length, Tail, Space as NoSpace}
+use Rattle.words_packing.specs.declared.PackingRefused.{PackingRefused}
 use Rattle.library.specs.Check.{Checking, good, bad, check, fault_number}
 use Rattle.library.specs.declared.Fault.{Fault}
 use Rattle.compile_walk.specs.View.{DeckView, view, full_choice}
 use Rattle.compile_walk.specs.Walk.{Walk, walked, halted, walk_decks}
 use Rattle.compile_walk.specs.declared.Stop.{Stop}
 use Rattle.compile_walk.specs.declared.Stop.TheVariants.{NoDeck, NotCommon, Deep, Many, Space}
-use Rattle.compile.specs.declared.Compiled.{Compiled}
-use Rattle.compile.specs.declared.Compiled.TheVariants.{Done, Library as OfLibrary, Refused}
+use Rattle.compile_walk.specs.declared.Counts.{Counts}
+use Rattle.compile.specs.declared.CompileRefused.{CompileRefused}
+use Rattle.compile.specs.declared.CompileRefused.TheVariants.{Library as OfLibrary, Card as OfCard}
 
 -- a space of so many bytes holds so many lines
 abbrev pub line_room : ℕ → ℕ
@@ -44,10 +44,10 @@ unfoldable pub compiling : List ℕ → ℕ → Compiling
 compiling image room = compile_checked room (check image)
 
 -- THE ANSWER, and what the lent space then holds
-abbrev pub compiled : Compiling → Compiled
-compiled (of_walk (walked ls n)) = Done (length ls) n
-compiled (of_walk (halted k o s)) = Refused k o s
-compiled (of_library f p) = OfLibrary f p
+abbrev pub compiled : Compiling → Result Counts CompileRefused
+compiled (of_walk (walked ls n)) = Ok (record { lines = length ls; calls = n })
+compiled (of_walk (halted k o s)) = Err (OfCard (record { stop = k; owner = o; seq = s }))
+compiled (of_library f p) = Err (OfLibrary (record { fault = f; place = p }))
 
 abbrev pub file_of : List (List ℕ) → List ℕ
 file_of [] = []
@@ -66,20 +66,20 @@ stop_number Deep = 42
 stop_number Many = 43
 stop_number Space = 44
 
-abbrev pub compiled_number : Compiled → ℕ
-compiled_number (Done n k) = 0
-compiled_number (OfLibrary f p) = fault_number f
-compiled_number (Refused k o s) = stop_number k
+abbrev pub compiled_number : Result Counts CompileRefused → ℕ
+compiled_number (Ok n) = 0
+compiled_number (Err (OfLibrary r)) = fault_number r.fault
+compiled_number (Err (OfCard h)) = stop_number h.stop
 
-abbrev pub compiled_first : Compiled → ℕ
-compiled_first (Done n k) = n
-compiled_first (OfLibrary f p) = p
-compiled_first (Refused k o s) = o
+abbrev pub compiled_first : Result Counts CompileRefused → ℕ
+compiled_first (Ok n) = n.lines
+compiled_first (Err (OfLibrary r)) = r.place
+compiled_first (Err (OfCard h)) = h.owner
 
-abbrev pub compiled_second : Compiled → ℕ
-compiled_second (Done n k) = k
-compiled_second (OfLibrary f p) = 0
-compiled_second (Refused k o s) = s
+abbrev pub compiled_second : Result Counts CompileRefused → ℕ
+compiled_second (Ok n) = n.calls
+compiled_second (Err (OfLibrary r)) = 0
+compiled_second (Err (OfCard h)) = h.seq
 
 -- THE PROGRAM: packed words in, and out the file, of 720 lines of 91 bytes at most, or REFUSED, the number and the place, with a blank between and byte 10 at the end
 abbrev pub refused_line : ℕ → List ℕ → List ℕ
@@ -96,11 +96,9 @@ program_of (of_library f p) = refused_line (fault_number f) (numeral p)
 abbrev pub program_space : ℕ
 program_space = 720 * 91
 
-abbrev pub after_unpacking : Packing → List ℕ → List ℕ
-after_unpacking (Unpacked n) ws = program_of (compiling ws program_space)
-after_unpacking Length ws = refused_line (packing_number Length) (numeral 0)
-after_unpacking Tail ws = refused_line (packing_number Tail) (numeral 0)
-after_unpacking NoSpace ws = refused_line (packing_number NoSpace) (numeral 0)
+abbrev pub after_unpacking : Result ℕ PackingRefused → List ℕ → List ℕ
+after_unpacking (Ok n) ws = program_of (compiling ws program_space)
+after_unpacking (Err e) ws = refused_line (packing_number (Err e)) (numeral 0)
 
 -- 52 is ahead of 50; 30,720 bytes hold 4,096 words
 unfoldable pub program : List ℕ → List ℕ

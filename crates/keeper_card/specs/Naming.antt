@@ -2,15 +2,15 @@
 --   a card              entry_name, card_name
 --   what is shown       Showing, in_space, of_checked, card_shown, naming
 --   the answer          told, show_into, told_number, told_value
-use Rattle.std.specs.Prelude.{ℕ, List, [], ◌∷◌, ◌++◌, leb, length, drop, if◌then◌else◌}
+use Rattle.std.specs.Prelude.{ℕ, List, [], ◌∷◌, ◌++◌, leb, length, drop, if◌then◌else◌, Result, Ok, Err}
 use Rattle.words.specs.Display.{point}
 use Rattle.words.specs.Names.{name_of, numeral}
 use Rattle.library.specs.Library.{Library, name_at}
 use Rattle.library.specs.Sound.{is_entry}
 use Rattle.library.specs.Check.{Checking, good, bad, check, fault_number}
 use Rattle.library.specs.declared.Fault.{Fault}
-use Rattle.keeper_card.specs.declared.Told.{Told}
-use Rattle.keeper_card.specs.declared.Told.TheVariants.{Done, Library as OfLibrary, Space}
+use Rattle.keeper_card.specs.declared.ShowRefused.{ShowRefused}
+use Rattle.keeper_card.specs.declared.ShowRefused.TheVariants.{Library as OfLibrary, Space}
 
 -- A CARD: the letters of an entry's name; none outside the directory, and none of a purged one
 unfoldable pub entry_name : List ℕ → ℕ → List ℕ
@@ -41,10 +41,10 @@ unfoldable pub naming : List ℕ → ℕ → ℕ → ℕ → Showing
 naming image owner seq room = of_checked (card_shown owner seq room) (check image)
 
 -- THE ANSWER, and what the lent space then holds: the bytes shown at its front, and all else as it was
-abbrev pub told : Showing → Told
-told (shows n bs) = Done n
-told (not_sound k p) = OfLibrary k p
-told too_long = Space
+abbrev pub told : Showing → Result ℕ ShowRefused
+told (shows n bs) = Ok n
+told (not_sound k p) = Err (OfLibrary (record { fault = k; place = p }))
+told too_long = Err Space
 
 abbrev pub show_into : Showing → List ℕ → List ℕ
 show_into (shows n bs) space = bs ++ drop (length bs) space
@@ -52,12 +52,12 @@ show_into (not_sound k p) space = space
 show_into too_long space = space
 
 -- THE TABLE'S NUMBERS: the row, 53 where the result does not fit the space; then the count, or the place
-abbrev pub told_number : Told → ℕ
-told_number (Done n) = 0
-told_number (OfLibrary k p) = fault_number k
-told_number Space = 53
+abbrev pub told_number : Result ℕ ShowRefused → ℕ
+told_number (Ok n) = 0
+told_number (Err (OfLibrary r)) = fault_number r.fault
+told_number (Err Space) = 53
 
-abbrev pub told_value : Told → ℕ
-told_value (Done n) = n
-told_value (OfLibrary k p) = p
-told_value Space = 0
+abbrev pub told_value : Result ℕ ShowRefused → ℕ
+told_value (Ok n) = n
+told_value (Err (OfLibrary r)) = r.place
+told_value (Err Space) = 0

@@ -11,8 +11,8 @@ ghost use Rattle.keeper_directory.specs.Keeper.{listed, listing, rows_up_to, pur
 ghost use Rattle.keeper_directory.specs.Parts.{RowsOf, row_bytes, row_at};
 
 use crate::kinds::{SET, put_kinds};
-use keeper_card::Told;
-use library::{Checked, DIRECTORY};
+use keeper_card::ShowRefused;
+use library::DIRECTORY;
 
 // a row: the name in 9 columns, blanks after it, what the entry is, whether it is yanked
 const NAME: usize = 9;
@@ -111,25 +111,23 @@ fn put_directory(image: &[u64], directory: &[u64], rows: &mut [u8])
 }
 
 // The directory of an image that the check accepts.
-fn directory_sound(image: &[u64], rows: &mut [u8]) -> Told
+fn directory_sound(image: &[u64], rows: &mut [u8]) -> Result<usize, ShowRefused>
     requires sized { Sized image.now }
     requires tabled { Tabled image.now }
     ensures { AnswersOf image.now (listed (length rows.old)) result rows.old rows.new }
 {
     let n = library_tables::entries_of(image);
     if rows.len() < n * ROW {
-        return Told::Space;
+        return Err(ShowRefused::Space);
     }
     put_directory(image, &image[DIRECTORY..DIRECTORY + n], rows);
-    Told::Done(n)
+    Ok(n)
 }
 
-pub fn directory(image: &[u64], rows: &mut [u8]) -> Told
+pub fn directory(image: &[u64], rows: &mut [u8]) -> Result<usize, ShowRefused>
     ensures answer { result ≡ told (listing image.now (length rows.old)) }
     ensures space { rows.new ≡ show_into (listing image.now (length rows.old)) rows.old }
 {
-    match library_check::check(image) {
-        Checked::Sound => directory_sound(image, rows),
-        Checked::Refused(fault, place) => Told::Library(fault, place),
-    }
+    library_check::check(image)?;
+    directory_sound(image, rows)
 }

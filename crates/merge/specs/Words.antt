@@ -3,7 +3,7 @@
 --   the merged words         yanks_in, decks_in, header_of, tables_of, merged_cards, merged_words
 --   a stretch raised         raised_part
 --   the answer               MergeAnswers, WithinBoth, MergesSound, MergesApart
-use Rattle.std.specs.Prelude.{ℕ, ◌+◌, ◌-◌, ◌^◌, ◌≤◌, ◌<◌, ◌≡◌, Bool, true, List, [], ◌∷◌, ◌++◌, length, get_or, take, drop}
+use Rattle.std.specs.Prelude.{ℕ, ◌+◌, ◌-◌, ◌^◌, ◌≤◌, ◌<◌, ◌≡◌, Bool, true, List, [], ◌∷◌, ◌++◌, length, get_or, take, drop, Result}
 use Rattle.std.proofs.Math.Option.{none}
 use Rattle.library.specs.Library.{Library}
 use Rattle.library.specs.Image.{within_limits}
@@ -11,7 +11,7 @@ use Rattle.library.specs.Check.{directory_count, deck_count, directory_of, deck_
 use Rattle.library_raise.specs.Raised.{raised_words}
 use Rattle.library_image_decks.specs.Decks.{deck_end}
 use Rattle.merge_meaning.specs.Merge.{merge, shared_name, Merging, fitted_in, from_shared, merged, merge_into}
-use Rattle.merge_meaning.specs.declared.Merged.{Merged}
+use Rattle.merge_meaning.specs.declared.MergeRefused.{MergeRefused}
 use Rattle.merge.specs.declared.parts.Parts.{Parts}
 
 -- PLACES: where the deck list, the cards and the first deck card stand
@@ -58,17 +58,17 @@ abbrev pub raised_part : ℕ → ℕ → ℕ → List ℕ → List ℕ
 raised_part from to n space = take from space ++ (raised_words n (take (to - from) (drop from space)) ++ drop to space)
 
 -- THE ANSWER and the space: of two libraries that were read; whether they are within the limits; and where they are and no name is common
-pub record MergeAnswers (m : Merging) (space new : List ℕ) (r : Merged) : Type 0 where
+pub record MergeAnswers (m : Merging) (space new : List ℕ) (r : Result ℕ MergeRefused) : Type 0 where
   pub answer : r ≡ merged m
   pub written : new ≡ merge_into m space
 
 abbrev pub WithinBoth : List ℕ → List ℕ → Bool → Type 0
 WithinBoth ws vs r = (l m : Library) → check ws ≡ good l → check vs ≡ good m → r ≡ within_limits (merge l m)
 
-abbrev pub MergesSound : List ℕ → List ℕ → List ℕ → List ℕ → Merged → Type 0
+abbrev pub MergesSound : List ℕ → List ℕ → List ℕ → List ℕ → Result ℕ MergeRefused → Type 0
 MergesSound ws vs space new r = (l m : Library) → check ws ≡ good l → check vs ≡ good m
     → MergeAnswers (from_shared (length space) l m (shared_name l m)) space new r
 
-abbrev pub MergesApart : List ℕ → List ℕ → List ℕ → List ℕ → Merged → Type 0
+abbrev pub MergesApart : List ℕ → List ℕ → List ℕ → List ℕ → Result ℕ MergeRefused → Type 0
 MergesApart ws vs space new r = (l m : Library) → check ws ≡ good l → check vs ≡ good m → shared_name l m ≡ none → within_limits (merge l m) ≡ true
     → MergeAnswers (fitted_in (length space) (merge l m)) space new r

@@ -14,8 +14,8 @@ ghost use Rattle.merge.specs.Words.{Laid, WithinBoth, MergesSound, MergesApart};
 use crate::counted::count_cards;
 use crate::parts::{Parts, parts_of};
 use crate::put::{TWICE, put_merged};
-use library::{Checked, DIRECTORY};
-pub use merge_meaning::{Merged, merged_number, merged_value, merged_which};
+use library::DIRECTORY;
+pub use merge_meaning::{MergeRefused, merged_number, merged_value, merged_which};
 use merge_names::shared_name;
 
 // Whether the two together pass no limit.
@@ -31,20 +31,20 @@ fn within_both(first: &[u64], a: Parts, second: &[u64], b: Parts) -> bool
 }
 
 // Where no name is common and no limit is passed.
-fn merge_apart(first: &[u64], a: Parts, second: &[u64], b: Parts, space: &mut [u64]) -> Merged
+fn merge_apart(first: &[u64], a: Parts, second: &[u64], b: Parts, space: &mut [u64]) -> Result<usize, MergeRefused>
     requires { Laid first.now a × Laid second.now b }
     ensures { MergesApart first.now second.now space.old space.new result }
 {
     let words = first.len() + second.len() - TWICE;
     if space.len() < words {
-        return Merged::Space;
+        return Err(MergeRefused::Space);
     }
     put_merged(first, a, second, b, space);
-    Merged::Done(words)
+    Ok(words)
 }
 
 // Two images that the check accepted.
-fn merge_sound(first: &[u64], second: &[u64], space: &mut [u64]) -> Merged
+fn merge_sound(first: &[u64], second: &[u64], space: &mut [u64]) -> Result<usize, MergeRefused>
     requires { Readable first.now × Readable second.now }
     ensures { MergesSound first.now second.now space.old space.new result }
 {
@@ -55,24 +55,20 @@ fn merge_sound(first: &[u64], second: &[u64], space: &mut [u64]) -> Merged
     let shared = shared_name(&first[DIRECTORY..names], &second[DIRECTORY..others]);
     let within = within_both(first, a, second, b);
     if shared != 0 {
-        return Merged::Shared(shared);
+        return Err(MergeRefused::Shared(shared));
     }
     if !within {
-        return Merged::Limit;
+        return Err(MergeRefused::Limit);
     }
     merge_apart(first, a, second, b, space)
 }
 
 // The first library followed by the second, in the space; a refusal leaves the space as it was.
-pub fn merge(first: &[u64], second: &[u64], space: &mut [u64]) -> Merged
+pub fn merge(first: &[u64], second: &[u64], space: &mut [u64]) -> Result<usize, MergeRefused>
     ensures answer { result ≡ merged (merging first.now second.now (length space.old)) }
     ensures space { space.new ≡ merge_into (merging first.now second.now (length space.old)) space.old }
 {
-    match library_check::check(first) {
-        Checked::Refused(fault, place) => Merged::First(fault, place),
-        Checked::Sound => match library_check::check(second) {
-            Checked::Refused(fault, place) => Merged::Second(fault, place),
-            Checked::Sound => merge_sound(first, second, space),
-        },
-    }
+    library_check::check(first).map_err(MergeRefused::First)?;
+    library_check::check(second).map_err(MergeRefused::Second)?;
+    merge_sound(first, second, space)
 }
