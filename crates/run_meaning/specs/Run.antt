@@ -4,7 +4,7 @@
 --   over images          Running, from_updated, run_checked, running
 --   the answer           ran, run_into
 --   the table's numbers  why_number, ran_number, ran_value
-use Rattle.std.specs.Prelude.{ℕ, suc, List, [], ◌∷◌, ◌++◌, ltb, length, drop, if◌then◌else◌}
+use Rattle.std.specs.Prelude.{ℕ, suc, List, [], ◌∷◌, ◌++◌, ltb, length, drop, if◌then◌else◌, Result, Ok, Err}
 use Rattle.words_lines.specs.Directive.{lines}
 use Rattle.library.specs.Library.{Library}
 use Rattle.library.specs.Image.{encode}
@@ -13,8 +13,8 @@ use Rattle.library.specs.declared.Fault.{Fault}
 use Rattle.run_meaning.specs.Step.{State, Step, went, refused, start, step}
 use Rattle.run_meaning.specs.declared.Why.{Why}
 use Rattle.run_meaning.specs.declared.Why.TheVariants.{Stream, Outside, Long, Malformed, NotCarried, Nowhere, Known, Unknown, NoSet, NoCard, Backwards, Barred, Limit, Space}
-use Rattle.run_meaning.specs.declared.Ran.{Ran}
-use Rattle.run_meaning.specs.declared.Ran.TheVariants.{Done, Library as OfLibrary, Refused}
+use Rattle.run_meaning.specs.declared.RunRefused.{RunRefused}
+use Rattle.run_meaning.specs.declared.RunRefused.TheVariants.{Library as OfLibrary, Stream as OfStream}
 
 -- the lines one after another, up to the first that is refused; n is the number of the first line
 pub data Steps : Type 0 where
@@ -59,10 +59,10 @@ unfoldable pub running : List ℕ → List ℕ → ℕ → Running
 running old stream room = run_checked (check old) stream room
 
 -- THE ANSWER, and what the lent space then holds
-abbrev pub ran : Running → Ran
-ran (new_library l) = Done (length (encode l))
-ran (bad_library f p) = OfLibrary f p
-ran (bad_stream w n) = Refused w n
+abbrev pub ran : Running → Result ℕ RunRefused
+ran (new_library l) = Ok (length (encode l))
+ran (bad_library f p) = Err (OfLibrary (record { fault = f; place = p }))
+ran (bad_stream w n) = Err (OfStream w n)
 
 abbrev pub run_into : Running → List ℕ → List ℕ
 run_into (new_library l) space = encode l ++ drop (length (encode l)) space
@@ -86,12 +86,12 @@ why_number Barred = 30
 why_number Limit = 31
 why_number Space = 32
 
-abbrev pub ran_number : Ran → ℕ
-ran_number (Done n) = 0
-ran_number (OfLibrary f p) = fault_number f
-ran_number (Refused w n) = why_number w
+abbrev pub ran_number : Result ℕ RunRefused → ℕ
+ran_number (Ok n) = 0
+ran_number (Err (OfLibrary f)) = fault_number f.fault
+ran_number (Err (OfStream w n)) = why_number w
 
-abbrev pub ran_value : Ran → ℕ
-ran_value (Done n) = n
-ran_value (OfLibrary f p) = p
-ran_value (Refused w n) = n
+abbrev pub ran_value : Result ℕ RunRefused → ℕ
+ran_value (Ok n) = n
+ran_value (Err (OfLibrary f)) = f.place
+ran_value (Err (OfStream w n)) = n

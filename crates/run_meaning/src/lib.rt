@@ -1,15 +1,16 @@
-// The corrections of a library, without their code: what a run answers and the table's numbers of it, the next line, and the next card's number.
+// The corrections of a library, without their code: what a run refuses and the table's numbers of its answer, the next line, and the next card's number.
 #![tactic(auto)]
 
 ghost use Rattle.std.specs.Prelude.{◌≡◌, length};
 ghost use Rattle.words_lines.specs.FirstLine.{line_after};
 ghost use Rattle.run_meaning.specs.Numbering.{number_after};
 ghost use Rattle.run_meaning.specs.Run.{why_number, ran_number, ran_value};
+ghost use Rattle.run_meaning.specs.declared.RunRefused.TheVariants.{Library as OfLibrary};
 
-use library::Fault;
+use library::Refusal;
 
 // Why a stream is refused: rows 19 to 32 of the table.
-#[derive(Clone, Copy)]
+#[derive(Clone, Copy, PartialEq, Eq)]
 pub enum Why {
     // the stream is over 262,144 bytes
     Stream,
@@ -41,12 +42,19 @@ pub enum Why {
     Space,
 }
 
-// What a run answers: how many words were written, or the row and the place.
-#[derive(Clone, Copy)]
-pub enum Ran {
-    Done(usize),
-    Library(Fault, usize),
-    Refused(Why, usize),
+// What a run refuses: the library, with its fault and the place, or the stream, with the reason and the line.
+#[derive(Clone, Copy, PartialEq, Eq)]
+pub enum RunRefused {
+    Library(Refusal),
+    Stream(Why, usize),
+}
+
+impl From<Refusal> for RunRefused {
+    ghost from_gives = { λ r e. e ≡ OfLibrary r };
+
+    fn from(r: Refusal) -> RunRefused {
+        RunRefused::Library(r)
+    }
 }
 
 // The row of the table.
@@ -72,24 +80,24 @@ pub fn why_number(y: Why) -> u64
 }
 
 // 0, or the row of the table.
-pub fn ran_number(r: Ran) -> u64
+pub fn ran_number(r: Result<usize, RunRefused>) -> u64
     ensures { result ≡ ran_number r }
 {
     match r {
-        Ran::Done(_) => 0,
-        Ran::Library(f, _) => library::fault_number(f),
-        Ran::Refused(y, _) => why_number(y),
+        Ok(_) => 0,
+        Err(RunRefused::Library(f)) => library::fault_number(f.fault),
+        Err(RunRefused::Stream(y, _)) => why_number(y),
     }
 }
 
 // The words written, or the place.
-pub fn ran_value(r: Ran) -> u64
+pub fn ran_value(r: Result<usize, RunRefused>) -> u64
     ensures { result ≡ ran_value r }
 {
     match r {
-        Ran::Done(n) => n as u64,
-        Ran::Library(_, p) => p as u64,
-        Ran::Refused(_, n) => n as u64,
+        Ok(n) => n as u64,
+        Err(RunRefused::Library(f)) => f.place as u64,
+        Err(RunRefused::Stream(_, n)) => n as u64,
     }
 }
 
