@@ -3,4 +3,4 @@
 
 mod lists;
 
-pub use lists::{clear, put_bytes, put_words, stands};
+pub use lists::{clear, put, stands};

@@ -160,6 +160,6 @@ pub fn put_number(n: u64, field: &mut [u8]) -> bool
     }
     let gap = field.len() - count;
     put_gap(gap, field);
-    words_lists::put_bytes(&digits[start..], field, gap);
+    words_lists::put(&digits[start..], field, gap);
     true
 }

@@ -5,10 +5,10 @@
 --   the space               space_after
 --   words as eight bytes    low_bytes, eights, low_number, words_from, words_of_eights, packing_eights, pack_eights_into, times_eight, unpacking_eights, unpack_eights_into
 --   the table's numbers     packing_number, packing_value
-use Rattle.std.specs.Prelude.{ℕ, zero, suc, ◌+◌, ◌-◌, ◌*◌, ◌/◌, ◌%◌, ◌^◌, Bool, ◌&&◌, ◌||◌, not, List, [], ◌∷◌, ◌++◌, eqb, ltb, leb, length, get_or, take, drop, if◌then◌else◌}
+use Rattle.std.specs.Prelude.{ℕ, zero, suc, ◌+◌, ◌-◌, ◌*◌, ◌/◌, ◌%◌, ◌^◌, Bool, ◌&&◌, ◌||◌, not, List, [], ◌∷◌, ◌++◌, eqb, ltb, leb, length, get_or, take, drop, Result, Ok, Err, if◌then◌else◌}
 use Rattle.words.specs.Base.{all, is_word}
-use Rattle.words_packing.specs.declared.Packing.{Packing}
-use Rattle.words_packing.specs.declared.Packing.TheVariants.{Done, Length, Tail, Space}
+use Rattle.words_packing.specs.declared.PackingRefused.{PackingRefused}
+use Rattle.words_packing.specs.declared.PackingRefused.TheVariants.{Length, Tail, Space}
 
 -- the n lowest bytes of a number, highest first, and the number of bytes so written
 abbrev pub bytes_of : ℕ → ℕ → List ℕ
@@ -48,8 +48,8 @@ abbrev pub unpacked_length : ℕ → ℕ
 unpacked_length n = n * 2 / 15
 
 -- PACKING: 53 where a word is none of 60 bits, or the bytes do not fit
-unfoldable pub packing : List ℕ → ℕ → Packing
-packing ws room = if all is_word ws && leb (packed_length (length ws)) room then Done (packed_length (length ws)) else Space
+unfoldable pub packing : List ℕ → ℕ → Result ℕ PackingRefused
+packing ws room = if all is_word ws && leb (packed_length (length ws)) room then Ok (packed_length (length ws)) else Err Space
 
 -- UNPACKING: 50, then 53, then 51
 abbrev pub is_packed_length : ℕ → Bool
@@ -58,19 +58,17 @@ is_packed_length n = eqb (n % 15) 0 || eqb (n % 15) 8
 abbrev pub has_tail : List ℕ → Bool
 has_tail bs = eqb (length bs % 15) 8 && not (eqb (get_or bs (length bs - 1) 0 % 16) 0)
 
-unfoldable pub unpacking : List ℕ → ℕ → Packing
+unfoldable pub unpacking : List ℕ → ℕ → Result ℕ PackingRefused
 unpacking bs room =
-    if not (is_packed_length (length bs)) then Length
-    else if ltb room (unpacked_length (length bs)) then Space
-    else if has_tail bs then Tail
-    else Done (unpacked_length (length bs))
+    if not (is_packed_length (length bs)) then Err Length
+    else if ltb room (unpacked_length (length bs)) then Err Space
+    else if has_tail bs then Err Tail
+    else Ok (unpacked_length (length bs))
 
 -- what a space holds afterwards: the result and what lay beyond it, or what it held
-unfoldable pub space_after : Packing → List ℕ → List ℕ → List ℕ
-space_after (Done n) result space = result ++ drop n space
-space_after Length result space = space
-space_after Tail result space = space
-space_after Space result space = space
+unfoldable pub space_after : Result ℕ PackingRefused → List ℕ → List ℕ → List ℕ
+space_after (Ok n) result space = result ++ drop n space
+space_after (Err e) result space = space
 
 abbrev pub pack_into : List ℕ → List ℕ → List ℕ
 pack_into ws space = space_after (packing ws (length space)) (packed ws) space
@@ -98,34 +96,30 @@ words_from (suc k) bs = low_number (take 8 bs) ∷ words_from k (drop 8 bs)
 abbrev pub words_of_eights : List ℕ → List ℕ
 words_of_eights bs = words_from (length bs / 8) bs
 
-unfoldable pub packing_eights : List ℕ → ℕ → Packing
-packing_eights bs room = if eqb (length bs % 8) 0 then packing (words_of_eights bs) room else Length
+unfoldable pub packing_eights : List ℕ → ℕ → Result ℕ PackingRefused
+packing_eights bs room = if eqb (length bs % 8) 0 then packing (words_of_eights bs) room else Err Length
 
 abbrev pub pack_eights_into : List ℕ → List ℕ → List ℕ
 pack_eights_into bs space = space_after (packing_eights bs (length space)) (packed (words_of_eights bs)) space
 
 -- the length is in bytes here, eight for each word
-abbrev pub times_eight : Packing → Packing
-times_eight (Done n) = Done (n * 8)
-times_eight Length = Length
-times_eight Tail = Tail
-times_eight Space = Space
+abbrev pub times_eight : Result ℕ PackingRefused → Result ℕ PackingRefused
+times_eight (Ok n) = Ok (n * 8)
+times_eight (Err e) = Err e
 
-unfoldable pub unpacking_eights : List ℕ → ℕ → Packing
-unpacking_eights bs room = if eqb (room % 8) 0 then times_eight (unpacking bs (room / 8)) else Length
+unfoldable pub unpacking_eights : List ℕ → ℕ → Result ℕ PackingRefused
+unpacking_eights bs room = if eqb (room % 8) 0 then times_eight (unpacking bs (room / 8)) else Err Length
 
 abbrev pub unpack_eights_into : List ℕ → List ℕ → List ℕ
 unpack_eights_into bs space = space_after (unpacking_eights bs (length space)) (eights (unpacked bs)) space
 
 -- THE TABLE'S NUMBERS: the row, and the length written (0 where refused)
-abbrev pub packing_number : Packing → ℕ
-packing_number (Done n) = 0
-packing_number Length = 50
-packing_number Tail = 51
-packing_number Space = 53
+abbrev pub packing_number : Result ℕ PackingRefused → ℕ
+packing_number (Ok n) = 0
+packing_number (Err Length) = 50
+packing_number (Err Tail) = 51
+packing_number (Err Space) = 53
 
-abbrev pub packing_value : Packing → ℕ
-packing_value (Done n) = n
-packing_value Length = 0
-packing_value Tail = 0
-packing_value Space = 0
+abbrev pub packing_value : Result ℕ PackingRefused → ℕ
+packing_value (Ok n) = n
+packing_value (Err e) = 0

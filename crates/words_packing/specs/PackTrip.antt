@@ -4,11 +4,10 @@
 --   and accepted        PackedAccepted, UnpackedAccepted
 --   how long            PackedLength, UnpackedLength
 --   for C               WordsEights, EightsWords
-use Rattle.std.specs.Prelude.{ℕ, ◌%◌, ◌^◌, ◌≤◌, ◌≡◌, Bool, true, List, ltb, length}
+use Rattle.std.specs.Prelude.{ℕ, ◌%◌, ◌^◌, ◌≤◌, ◌≡◌, Bool, true, List, ltb, length, Ok}
 use Rattle.words.specs.Base.{all}
 use Rattle.words_packing.specs.Pack.{packed, packed_length, packing, is_packed_length, unpacked, unpacked_length, unpacking, eights, words_of_eights}
 use Rattle.words.specs.Base.{is_word}
-use Rattle.words_packing.specs.declared.Packing.TheVariants.{Done}
 
 abbrev pub is_byte : ℕ → Bool
 is_byte b = ltb b 256
@@ -23,16 +22,16 @@ UnpackPacked = (ws : List ℕ) → all is_word ws ≡ true → unpacked (packed 
 
 -- bytes that unpacking accepts, unpacked and packed, are the same bytes
 abbrev pub PackUnpacked : Type 0
-PackUnpacked = (bs : List ℕ) (room n : ℕ) → all is_byte bs ≡ true → unpacking bs room ≡ Done n → packed (unpacked bs) ≡ bs
+PackUnpacked = (bs : List ℕ) (room n : ℕ) → all is_byte bs ≡ true → unpacking bs room ≡ Ok n → packed (unpacked bs) ≡ bs
 
 -- what packing writes is accepted where there is room for the words, and what unpacking writes where there is room for the bytes
 abbrev pub PackedAccepted : Type 0
-PackedAccepted = (ws : List ℕ) (room : ℕ) → all is_word ws ≡ true → length ws ≤ room → unpacking (packed ws) room ≡ Done (length ws)
+PackedAccepted = (ws : List ℕ) (room : ℕ) → all is_word ws ≡ true → length ws ≤ room → unpacking (packed ws) room ≡ Ok (length ws)
 
 abbrev pub UnpackedAccepted : Type 0
 UnpackedAccepted =
-    (bs : List ℕ) (room n space : ℕ) → all is_byte bs ≡ true → unpacking bs room ≡ Done n → length bs ≤ space
-    → packing (unpacked bs) space ≡ Done (length bs)
+    (bs : List ℕ) (room n space : ℕ) → all is_byte bs ≡ true → unpacking bs room ≡ Ok n → length bs ≤ space
+    → packing (unpacked bs) space ≡ Ok (length bs)
 
 -- as many bytes as packed_length says, and as many words as unpacked_length says
 abbrev pub PackedLength : Type 0

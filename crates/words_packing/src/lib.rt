@@ -8,10 +8,9 @@ mod unpacker;
 pub use packer::{pack, pack_bytes, packing_number, packing_value};
 pub use unpacker::{unpack, unpack_bytes};
 
-// What packing or unpacking answers: how many bytes or words were written, or why not.
-#[derive(Clone, Copy)]
-pub enum Packing {
-    Done(usize),
+// Why words are not packed, or bytes not unpacked.
+#[derive(Clone, Copy, PartialEq, Eq)]
+pub enum PackingRefused {
     // the length is not that of packed words, or not that of words of eight bytes
     Length,
     // the last 4 bits are not zero

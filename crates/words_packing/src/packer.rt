@@ -4,7 +4,7 @@ ghost use Rattle.words.specs.Base.{all};
 ghost use Rattle.words_packing.specs.Pack.{bytes_of, packed_length, packed, words_of_eights, packing, pack_into, packing_eights, pack_eights_into, packing_number, packing_value};
 ghost use Rattle.words.specs.Base.{is_word};
 
-use crate::Packing;
+use crate::PackingRefused;
 use crate::eights::{EIGHT, TWO, low, put_high};
 
 // 2^60: a word is below it
@@ -94,62 +94,60 @@ fn write_packed_eights(words: &[u8], out: &mut [u8])
 }
 
 // Packs words (RULES, "Packing"): each two into 15 bytes, and one that is left over into 8.
-pub fn pack(words: &[u64], out: &mut [u8]) -> Packing
+pub fn pack(words: &[u64], out: &mut [u8]) -> Result<usize, PackingRefused>
     ensures value { result ≡ packing words.now (length out.old) }
     ensures out_after { out.new ≡ pack_into words.now out.old }
 {
     let size = (PAIR * words.len() + 1) / 2;
     if out.len() < size {
-        return Packing::Space;
+        return Err(PackingRefused::Space);
     }
     if are_words(words) {
         write_packed(words, out);
-        Packing::Done(size)
+        Ok(size)
     } else {
-        Packing::Space
+        Err(PackingRefused::Space)
     }
 }
 
 // The same for C, where a word is eight bytes, the lowest ahead.
-pub fn pack_bytes(words: &[u8], out: &mut [u8]) -> Packing
+pub fn pack_bytes(words: &[u8], out: &mut [u8]) -> Result<usize, PackingRefused>
     ensures value { result ≡ packing_eights words.now (length out.old) }
     ensures out_after { out.new ≡ pack_eights_into words.now out.old }
 {
     if words.len() % EIGHT != 0 {
-        return Packing::Length;
+        return Err(PackingRefused::Length);
     }
     let size = (PAIR * (words.len() / EIGHT) + 1) / 2;
     if out.len() < size {
-        return Packing::Space;
+        return Err(PackingRefused::Space);
     }
     if are_eights(words) {
         write_packed_eights(words, out);
-        Packing::Done(size)
+        Ok(size)
     } else {
-        Packing::Space
+        Err(PackingRefused::Space)
     }
 }
 
 // The row of the table, 0 where it was done.
-pub fn packing_number(p: Packing) -> u64
+pub fn packing_number(p: Result<usize, PackingRefused>) -> u64
     ensures { result ≡ packing_number p }
 {
     match p {
-        Packing::Done(_) => 0,
-        Packing::Length => 50,
-        Packing::Tail => 51,
-        Packing::Space => 53,
+        Ok(_) => 0,
+        Err(PackingRefused::Length) => 50,
+        Err(PackingRefused::Tail) => 51,
+        Err(PackingRefused::Space) => 53,
     }
 }
 
 // The length that was written, 0 where it was refused.
-pub fn packing_value(p: Packing) -> u64
+pub fn packing_value(p: Result<usize, PackingRefused>) -> u64
     ensures { result ≡ packing_value p }
 {
     match p {
-        Packing::Done(n) => n as u64,
-        Packing::Length => 0,
-        Packing::Tail => 0,
-        Packing::Space => 0,
+        Ok(n) => n as u64,
+        Err(_) => 0,
     }
 }

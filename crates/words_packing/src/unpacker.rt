@@ -2,7 +2,7 @@
 ghost use Rattle.std.specs.Prelude.{◌≡◌, true, ◌++◌, ◌*◌, ◌≤◌, length, drop};
 ghost use Rattle.words_packing.specs.Pack.{low_bytes, is_packed_length, unpacked_length, unpacked, eights, unpacking, unpack_into, unpacking_eights, unpack_eights_into};
 
-use crate::Packing;
+use crate::PackingRefused;
 use crate::eights::{EIGHT, TWO, high, put_low};
 use crate::packer::{LIMIT, NIBBLE, PAIR, SECOND};
 
@@ -16,7 +16,7 @@ fn put_two(out: &mut [u8], a: u64, b: u64)
 }
 
 // What unpacking answers where there is room for so many words.
-fn unpackable(bytes: &[u8], room: usize) -> Packing
+fn unpackable(bytes: &[u8], room: usize) -> Result<usize, PackingRefused>
     ensures { result ≡ unpacking bytes.now room }
 {
     let n = bytes.len();
@@ -24,20 +24,20 @@ fn unpackable(bytes: &[u8], room: usize) -> Packing
     let size = n * 2 / PAIR;
     if over == 0 {
         if room < size {
-            return Packing::Space;
+            return Err(PackingRefused::Space);
         }
-        return Packing::Done(size);
+        return Ok(size);
     }
     if over != EIGHT {
-        return Packing::Length;
+        return Err(PackingRefused::Length);
     }
     if room < size {
-        return Packing::Space;
+        return Err(PackingRefused::Space);
     }
     if bytes[n - 1] % 16 != 0 {
-        return Packing::Tail;
+        return Err(PackingRefused::Tail);
     }
-    Packing::Done(size)
+    Ok(size)
 }
 
 // The writing alone, where all fits: 15 bytes a turn, and then the last eight.
@@ -80,38 +80,24 @@ fn write_unpacked_eights(bytes: &[u8], out: &mut [u8])
 }
 
 // Unpacks words (RULES, "Packing"); 50 is tested first, then 53, then 51.
-pub fn unpack(bytes: &[u8], out: &mut [u64]) -> Packing
+pub fn unpack(bytes: &[u8], out: &mut [u64]) -> Result<usize, PackingRefused>
     ensures value { result ≡ unpacking bytes.now (length out.old) }
     ensures out_after { out.new ≡ unpack_into bytes.now out.old }
 {
-    let answer = unpackable(bytes, out.len());
-    match answer {
-        Packing::Done(n) => {
-            write_unpacked(bytes, out);
-            Packing::Done(n)
-        }
-        Packing::Length => Packing::Length,
-        Packing::Tail => Packing::Tail,
-        Packing::Space => Packing::Space,
-    }
+    let size = unpackable(bytes, out.len())?;
+    write_unpacked(bytes, out);
+    Ok(size)
 }
 
 // The same for C, where a word is eight bytes, the lowest ahead.
-pub fn unpack_bytes(bytes: &[u8], out: &mut [u8]) -> Packing
+pub fn unpack_bytes(bytes: &[u8], out: &mut [u8]) -> Result<usize, PackingRefused>
     ensures value { result ≡ unpacking_eights bytes.now (length out.old) }
     ensures out_after { out.new ≡ unpack_eights_into bytes.now out.old }
 {
     if out.len() % EIGHT != 0 {
-        return Packing::Length;
+        return Err(PackingRefused::Length);
     }
-    let answer = unpackable(bytes, out.len() / EIGHT);
-    match answer {
-        Packing::Done(n) => {
-            write_unpacked_eights(bytes, out);
-            Packing::Done(n * EIGHT)
-        }
-        Packing::Length => Packing::Length,
-        Packing::Tail => Packing::Tail,
-        Packing::Space => Packing::Space,
-    }
+    let size = unpackable(bytes, out.len() / EIGHT)?;
+    write_unpacked_eights(bytes, out);
+    Ok(size * EIGHT)
 }

@@ -20,4 +20,4 @@ returns c =
     let long : length d ≡ n = omega (arith, length-drop p.result p.new.space, p.auto.space) in
     let all : take n d ≡ d = take_all n d (omega arith) in
     let a = c.args in
-    let blanks = c.put_gap in record { value = (justified a.n a.field.now blanks.new.line _ (take n d) (length a.field.now - n) (all ∙ p.ensures.space_after) (omega (arith, ap length all)) (omega (arith, ap length all)) blanks.auto.line blanks.ensures (c.put_bytes.ensures ∙ over-put (length a.field.now - n) (take n d) blanks.new.line (omega (arith, ap length all, blanks.auto.line)))).0; field_after = (justified a.n a.field.now blanks.new.line _ (take n d) (length a.field.now - n) (all ∙ p.ensures.space_after) (omega (arith, ap length all)) (omega (arith, ap length all)) blanks.auto.line blanks.ensures (c.put_bytes.ensures ∙ over-put (length a.field.now - n) (take n d) blanks.new.line (omega (arith, ap length all, blanks.auto.line)))).1 }
+    let blanks = c.put_gap in record { value = (justified a.n a.field.now blanks.new.line _ (take n d) (length a.field.now - n) (all ∙ p.ensures.space_after) (omega (arith, ap length all)) (omega (arith, ap length all)) blanks.auto.line blanks.ensures (c.put.ensures ∙ over-put (length a.field.now - n) (take n d) blanks.new.line (omega (arith, ap length all, blanks.auto.line)))).0; field_after = (justified a.n a.field.now blanks.new.line _ (take n d) (length a.field.now - n) (all ∙ p.ensures.space_after) (omega (arith, ap length all)) (omega (arith, ap length all)) blanks.auto.line blanks.ensures (c.put.ensures ∙ over-put (length a.field.now - n) (take n d) blanks.new.line (omega (arith, ap length all, blanks.auto.line)))).1 }
