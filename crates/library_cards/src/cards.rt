@@ -7,26 +7,22 @@ ghost use Rattle.library_cards.specs.Found.{cards_read, cards_answer, answer_fro
 ghost use Rattle.library.specs.WordForm.{ok_number, ok_full, ok_last, ok_further, first_tests, word_tests};
 
 use library::{
-    ABOVE_BYTES, Checked, DIRECTORY, FIELD, Fault, Found, LAST, MOST_CARDS, MOST_HEADS, NUMBER,
-    PURGED, UPPER,
+    ABOVE_BYTES, DIRECTORY, FIELD, Fault, LAST, MOST_CARDS, MOST_HEADS, NUMBER, PURGED, Refusal,
+    UPPER,
 };
 
 const LAST_ALONE: u64 = 0o40;
 
 const ZEROS: u64 = 0o20;
 // How many words stand ahead of a card's text: those up to the first with bit 59.
-fn heads_of(image: &[u64], at: usize) -> Found
+fn heads_of(image: &[u64], at: usize) -> Option<usize>
     requires { at ≤ length image.now }
     ensures { result ≡ found (place_from is_last_word 1 (drop at image.now)) }
 {
-    let mut i = 0;
-    while at + i < image.len() {
-        if LAST <= image[at + i] {
-            return Found::At(i + 1);
-        }
-        i += 1;
+    match image[at..].iter().position(|w| LAST <= *w) {
+        Some(i) => Some(i + 1),
+        None => None,
     }
-    Found::Nothing
 }
 
 // A byte's number is not below `least`, and is that of an entry that is not purged.
@@ -160,30 +156,26 @@ fn single_ok(image: &[u64], directory: &[u64], at: usize) -> bool
 }
 
 // Where the text starts of the card at a place, if the card passes row 5.
-fn text_of(image: &[u64], directory: &[u64], at: usize) -> Found
+fn text_of(image: &[u64], directory: &[u64], at: usize) -> Option<usize>
     requires sized { Sized image.now }
     requires at_in_bounds { at < length image.now }
     ensures { result ≡ text_found directory.now image.now at }
 {
     if LAST <= image[at] {
         if single_ok(image, directory, at) {
-            return Found::At(at + 1);
+            return Some(at + 1);
         }
-        return Found::Nothing;
+        return None;
     }
-    match heads_of(image, at) {
-        Found::At(k) => {
-            if words_ok(image, directory, at, k) {
-                return Found::At(at + k);
-            }
-            Found::Nothing
-        }
-        Found::Nothing => Found::Nothing,
+    let k = heads_of(image, at)?;
+    if words_ok(image, directory, at, k) {
+        return Some(at + k);
     }
+    None
 }
 
 // Where the card at a place ends whose text starts at `from`, if the text passes row 6.
-fn end_of(image: &[u64], at: usize, from: usize) -> Found
+fn end_of(image: &[u64], at: usize, from: usize) -> Option<usize>
     requires sized { Sized image.now }
     requires at_in_bounds { at < length image.now }
     requires at_in_bounds_2 { from + text_count image.now at ≤ length image.now }
@@ -191,13 +183,13 @@ fn end_of(image: &[u64], at: usize, from: usize) -> Found
 {
     let end = from + (image[at] / UPPER % FIELD) as usize;
     if words_text_form::is_text(&image[from..end]) {
-        return Found::At(end);
+        return Some(end);
     }
-    Found::Nothing
+    None
 }
 
 // Rows 5 and 6 from a place on, card by card.
-fn cards_from(image: &[u64], directory: &[u64], from: usize) -> Checked
+fn cards_from(image: &[u64], directory: &[u64], from: usize) -> Result<(), Refusal>
     requires sized { Sized image.now }
     requires from_in_bounds { from ≤ length image.now }
     ensures { result ≡ answer_from directory.now image.now 16383 from }
@@ -206,22 +198,22 @@ fn cards_from(image: &[u64], directory: &[u64], from: usize) -> Checked
     let mut n = 0;
     while at < image.len() {
         if n == MOST_CARDS {
-            return Checked::Refused(Fault::Form, at);
+            return Err(Refusal { fault: Fault::Form, place: at });
         }
-        match text_of(image, directory, at) {
-            Found::Nothing => return Checked::Refused(Fault::Form, at),
-            Found::At(text) => match end_of(image, at, text) {
-                Found::Nothing => return Checked::Refused(Fault::Text, at),
-                Found::At(end) => at = end,
-            },
-        }
+        let Some(text) = text_of(image, directory, at) else {
+            return Err(Refusal { fault: Fault::Form, place: at });
+        };
+        let Some(end) = end_of(image, at, text) else {
+            return Err(Refusal { fault: Fault::Text, place: at });
+        };
+        at = end;
         n += 1;
     }
-    Checked::Sound
+    Ok(())
 }
 
 // Rows 5 and 6 of an image whose tables are right.
-pub(crate) fn cards_fault(image: &[u64]) -> Checked
+pub(crate) fn cards_fault(image: &[u64]) -> Result<(), Refusal>
     requires sized { Sized image.now }
     requires tabled { Tabled image.now }
     ensures { result ≡ cards_answer (cards_read image.now) }

@@ -9,14 +9,14 @@ use Rattle.library.specs.Library.{fresh, reserved, deck_names}
 use Rattle.library.specs.Yanks.{yanked}
 use Rattle.library.specs.Image.{header, encode}
 use Rattle.library_fresh.specs.Fresh.{freshing, fresh_into}
-use Rattle.library_fresh.specs.declared.Begun.TheVariants.{Done, Space}
+use Rattle.std.specs.Prelude.{None, Some}
 
 fresh-words : encode fresh ≡ header ∷ 1 ∷ reserved ∷ []
 unfolding encode deck_names yanked
 fresh-words = refl
 
 module _ (s : List ℕ) where
-  pub fresh-short : length s < 3 → (Space ≡ freshing (length s)) × (s ≡ fresh_into s)
+  pub fresh-short : length s < 3 → (None ≡ freshing (length s)) × (s ≡ fresh_into s)
   unfolding freshing
   fresh-short h = rw (fresh-words, lt-ltb (length s) 3 h) (refl, refl)
 
@@ -27,6 +27,6 @@ three (x ∷ y ∷ []) a b c h = absurd (omega arith)
 three (x ∷ y ∷ z ∷ s) a b c h = refl
 
 pub fresh-put : (s : List ℕ) (a c : ℕ) → 3 ≤ length s → a ≡ header → c ≡ reserved
-    → (Done 3 ≡ freshing (length s)) × (set (set (set s 0 a) 1 1) 2 c ≡ fresh_into s)
+    → (Some 3 ≡ freshing (length s)) × (set (set (set s 0 a) 1 1) 2 c ≡ fresh_into s)
 unfolding freshing
 fresh-put s a c h ea ec = rw (fresh-words, le-ltb (length s) 3 h) (refl, three s a 1 c h ∙ (λ i. ea i ∷ 1 ∷ ec i ∷ drop 3 s) ∙ ap (λ (w : List ℕ). w ++ drop 3 s) (sym fresh-words))

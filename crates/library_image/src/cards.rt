@@ -3,7 +3,6 @@ ghost use Rattle.std.specs.Prelude.{◌≡◌, ◌+◌, ◌≤◌, ◌<◌, leb,
 ghost use Rattle.library_image.specs.Places.{text_at, seen_at, star_at, line_in, line_into};
 
 use library::{ACTIVE, FIELD, LAST, NUMBER, Seen, UPPER};
-use words_text_expand::Expanded;
 
 // the most columns of a line
 pub const COLUMNS: usize = 80;
@@ -18,7 +17,7 @@ const STAR: u64 = 0o47;
 pub fn word_at(image: &[u64], at: usize) -> u64
     ensures { result ≡ get_or image.now at 0 }
 {
-    if at < image.len() { image[at] } else { 0 }
+    image.get(at).copied().unwrap_or(0)
 }
 
 // Where a card's text starts: past the first word with bit 59.
@@ -26,12 +25,10 @@ fn text_at(image: &[u64], at: usize) -> usize
     ensures upper_bound { (result ≤ length image.now) × (at < length image.now → at < result) }
     ensures value { result ≡ text_at image.now at }
 {
-    let mut i = at;
-    while i < image.len() {
+    for i in at..image.len() {
         if LAST <= image[i] {
             return i + 1;
         }
-        i += 1;
     }
     image.len()
 }
@@ -41,7 +38,7 @@ pub fn least(a: usize, b: usize) -> usize
     ensures value { result ≡ (if leb a b then a else b) }
     ensures upper_bound { (result ≤ a) × (result ≤ b) }
 {
-    if a <= b { a } else { b }
+    a.min(b)
 }
 
 // The card at a place; past the end nothing stands.
@@ -74,14 +71,8 @@ pub fn line_of(image: &[u64], from: usize, to: usize, line: &mut [u8; COLUMNS]) 
     ensures value { result ≡ length (line_in image.now from to) }
     ensures line_after { line.new ≡ line_into image.now from to line.old }
 {
-    if image.len() < to {
-        return 0;
-    }
-    if to < from {
-        return 0;
-    }
-    match words_text_expand::expand(&image[from..to], line) {
-        Expanded::Columns(n) => n,
-        Expanded::NoText => 0,
+    match image.get(from..to) {
+        Some(words) => words_text_expand::expand(words, line).unwrap_or(0),
+        None => 0,
     }
 }

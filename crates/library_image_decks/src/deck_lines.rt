@@ -12,37 +12,14 @@ fn deck_asked(line: Line) -> DeckLine
     match line {
         Line::Deck(w) => DeckLine::Deck(w),
         Line::Comdeck(w) => DeckLine::Common(w),
-        Line::Text => DeckLine::BadDeck,
-        Line::Skipped => DeckLine::BadDeck,
-        Line::Ident(_) => DeckLine::BadDeck,
-        Line::Insert(_) => DeckLine::BadDeck,
-        Line::Before(_) => DeckLine::BadDeck,
-        Line::Delete(_, _) => DeckLine::BadDeck,
-        Line::Restore(_, _) => DeckLine::BadDeck,
-        Line::Yank => DeckLine::BadDeck,
-        Line::Outside => DeckLine::BadDeck,
-        Line::Long => DeckLine::BadDeck,
-        Line::Malformed => DeckLine::BadDeck,
-        Line::NotCarried => DeckLine::BadDeck,
+        _ => DeckLine::BadDeck,
     }
 }
 
 fn is_deck_kind(kind: Kind) -> bool
     ensures { result ≡ is_deck_kind kind }
 {
-    match kind {
-        Kind::Text => false,
-        Kind::Skipped => false,
-        Kind::NotCarried => false,
-        Kind::Deck => true,
-        Kind::Comdeck => true,
-        Kind::Ident => false,
-        Kind::Insert => false,
-        Kind::Before => false,
-        Kind::Delete => false,
-        Kind::Restore => false,
-        Kind::Yank => false,
-    }
+    matches!(kind, Kind::Deck | Kind::Comdeck)
 }
 
 pub(crate) fn deck_line(line: &[u8]) -> DeckLine

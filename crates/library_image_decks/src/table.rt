@@ -1,7 +1,7 @@
 // The table of an image's decks, a row for each (RULES, "Decks").
 ghost use Rattle.std.specs.Prelude.{◌≡◌, ◌+◌, ◌≤◌, ◌++◌, length, take, drop};
 ghost use Rattle.library.specs.Check.{cards_place};
-ghost use Rattle.library_image_decks.specs.Decks.{kind_number, title_name, row_of, table_of, table_into};
+ghost use Rattle.library_image_decks.specs.Decks.{row_of, table_of, table_into};
 
 use crate::titles::{Title, deck_end, title_of};
 use library::{COUNTS, DIRECTORY, FIELD};
@@ -16,41 +16,19 @@ pub const TO: usize = 2;
 
 pub const KIND: usize = 3;
 
-const NORMAL: u64 = 0;
-
 pub const COMMON: u64 = 1;
 // a library has at most 255 decks
 pub const TABLE: usize = 1024;
 
-fn kind_of(t: Title) -> u64
-    ensures { result ≡ kind_number t }
-{
-    match t {
-        Title::Not => NORMAL,
-        Title::Deck(_) => NORMAL,
-        Title::Common(_) => COMMON,
-    }
-}
-
-fn name_of(t: Title) -> u64
-    ensures { result ≡ title_name t }
-{
-    match t {
-        Title::Not => 0,
-        Title::Deck(w) => w,
-        Title::Common(w) => w,
-    }
-}
-
-fn put_row(table: &mut [u64], at: usize, t: Title, from: usize, to: usize)
+fn put_row(table: &mut [u64], at: usize, title: Option<Title>, from: usize, to: usize)
     requires { at + 4 ≤ length table.old }
-    ensures table_after { take (at + 4) table.new ≡ take at table.old ++ row_of t from to }
+    ensures table_after { take (at + 4) table.new ≡ take at table.old ++ row_of title from to }
     ensures table_unchanged { drop (at + 4) table.new ≡ drop (at + 4) table.old }
 {
-    table[at] = name_of(t);
+    table[at] = title.map_or(0, |t| t.name);
     table[at + FROM] = from as u64;
     table[at + TO] = to as u64;
-    table[at + KIND] = kind_of(t);
+    table[at + KIND] = title.map_or(0, |t| u64::from(t.common));
 }
 
 // Where the cards start.

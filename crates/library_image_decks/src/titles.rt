@@ -9,12 +9,11 @@ use crate::deck_lines::deck_line;
 use library::{DeckLine, Seen};
 use library_image::COLUMNS;
 
-// A line as a deck card's: none, or that of a normal or common deck of this name.
+// What a deck card says of its deck: its name, and whether it is common.
 #[derive(Clone, Copy)]
-pub(crate) enum Title {
-    Not,
-    Deck(u64),
-    Common(u64),
+pub(crate) struct Title {
+    pub name: u64,
+    pub common: bool,
 }
 
 // The words from `from` up to `to` as a deck card's text; a line that begins with no * is none, and is not expanded.
@@ -29,24 +28,13 @@ pub fn deck_at(image: &[u64], from: usize, to: usize) -> DeckLine
     deck_line(&line[..n])
 }
 
-pub(crate) fn title_of(image: &[u64], c: Seen) -> Title
+pub(crate) fn title_of(image: &[u64], c: Seen) -> Option<Title>
     ensures { result ≡ title_in image.now c }
 {
     match deck_at(image, c.text, c.next) {
-        DeckLine::NotDeck => Title::Not,
-        DeckLine::BadDeck => Title::Not,
-        DeckLine::Deck(w) => Title::Deck(w),
-        DeckLine::Common(w) => Title::Common(w),
-    }
-}
-
-fn begins(t: Title) -> bool
-    ensures { result ≡ is_title t }
-{
-    match t {
-        Title::Not => false,
-        Title::Deck(_) => true,
-        Title::Common(_) => true,
+        DeckLine::Deck(name) => Some(Title { name, common: false }),
+        DeckLine::Common(name) => Some(Title { name, common: true }),
+        DeckLine::NotDeck | DeckLine::BadDeck => None,
     }
 }
 
@@ -58,7 +46,7 @@ pub fn deck_end(image: &[u64], from: usize) -> usize
     let mut at = from;
     while at < image.len() {
         let c = library_image::see(image, at);
-        if begins(title_of(image, c)) {
+        if title_of(image, c).is_some() {
             return at;
         }
         at = c.next;

@@ -3,25 +3,22 @@
 --   for rows 1 and 3     not_word, count_faults
 --   rows that passed     Sized, Tabled
 --   rows 1 to 4          after_header, table_rows
-use Rattle.std.specs.Prelude.{ℕ, ◌/◌, ◌%◌, ◌^◌, ◌≤◌, ◌<◌, Bool, not, List, [], ◌∷◌, eqb, ltb, leb, length, get_or}
+use Rattle.std.specs.Prelude.{Option as Place, None, Some, Result, Ok, Err, ℕ, ◌/◌, ◌%◌, ◌^◌, ◌≤◌, ◌<◌, Bool, not, List, [], ◌∷◌, eqb, ltb, leb, length, get_or}
 use Rattle.std.proofs.Math.Option.{Option, none, some}
 use Rattle.words.specs.Base.{is_word}
 use Rattle.library.specs.Check.{directory_count, deck_count, cards_place, row1, row2, row3, row4}
-use Rattle.library.specs.declared.Found.{Found}
-use Rattle.library.specs.declared.Found.TheVariants.{At, Nothing}
-use Rattle.library.specs.declared.Checked.{Checked}
-use Rattle.library.specs.declared.Checked.TheVariants.{Sound, Refused}
 use Rattle.library.specs.declared.Fault.{Fault}
+use Rattle.library.specs.declared.Refusal.{Refusal}
 use Rattle.library.specs.declared.Fault.TheVariants.{Size, Header, Tables, Name}
 
-abbrev pub found : Option ℕ → Found
-found none = Nothing
-found (some p) = At p
+abbrev pub found : Option ℕ → Place ℕ
+found none = None
+found (some p) = Some p
 
 -- a row's fault, or what comes after it
-abbrev pub refused_by : Fault → Option ℕ → Checked → Checked
+abbrev pub refused_by : Fault → Option ℕ → Result (Unit {0}) Refusal → Result (Unit {0}) Refusal
 refused_by f none r = r
-refused_by f (some p) r = Refused f p
+refused_by f (some p) r = Err (record { fault = f; place = p })
 
 -- row 1's test of a word
 abbrev pub not_word : ℕ → Bool
@@ -44,8 +41,8 @@ pub record Tabled (ws : List ℕ) : Type 0 where
   pub inside : cards_place ws ≤ length ws
 
 -- ROWS 1 TO 4, one after another
-abbrev pub after_header : List ℕ → Checked
-after_header ws = refused_by Tables (row3 ws) (refused_by Name (row4 ws) Sound)
+abbrev pub after_header : List ℕ → Result (Unit {0}) Refusal
+after_header ws = refused_by Tables (row3 ws) (refused_by Name (row4 ws) (Ok tt))
 
-unfoldable pub table_rows : List ℕ → Checked
+unfoldable pub table_rows : List ℕ → Result (Unit {0}) Refusal
 table_rows ws = refused_by Size (row1 ws) (refused_by Header (row2 ws) (after_header ws))

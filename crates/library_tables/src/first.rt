@@ -1,33 +1,16 @@
 // Rows 1 to 4 in their order.
 ghost use Rattle.std.specs.Prelude.{◌≡◌};
-ghost use Rattle.library_tables.specs.Found.{Sized, after_header, table_rows};
+ghost use Rattle.library_tables.specs.Found.{table_rows};
 
 use crate::tables::{header_fault, name_fault, size_fault, tables_fault};
-use library::{Checked, Fault, Found};
-
-// Rows 3 and 4.
-fn name_rows(image: &[u64]) -> Checked
-    requires { Sized image.now }
-    ensures { result ≡ after_header image.now }
-{
-    match tables_fault(image) {
-        Found::At(p) => Checked::Refused(Fault::Tables, p),
-        Found::Nothing => match name_fault(image) {
-            Found::At(p) => Checked::Refused(Fault::Name, p),
-            Found::Nothing => Checked::Sound,
-        },
-    }
-}
+use library::{Fault, Refusal, refuse};
 
 // What rows 1 to 4 answer of an image, whatever its words.
-pub fn table_rows(image: &[u64]) -> Checked
+pub fn table_rows(image: &[u64]) -> Result<(), Refusal>
     ensures { result ≡ table_rows image.now }
 {
-    match size_fault(image) {
-        Found::At(p) => Checked::Refused(Fault::Size, p),
-        Found::Nothing => match header_fault(image) {
-            Found::At(p) => Checked::Refused(Fault::Header, p),
-            Found::Nothing => name_rows(image),
-        },
-    }
+    refuse(Fault::Size, size_fault(image))?;
+    refuse(Fault::Header, header_fault(image))?;
+    refuse(Fault::Tables, tables_fault(image))?;
+    refuse(Fault::Name, name_fault(image))
 }

@@ -6,49 +6,40 @@ ghost use Rattle.words.specs.Names.{is_name_word};
 ghost use Rattle.library.specs.Check.{directory_count, deck_count, first_bad, ok_entry, ok_deck_word, row1, row2, row3, row4};
 ghost use Rattle.library_tables.specs.Found.{found, not_word, count_faults, Sized, Tabled};
 
-use library::{
-    COUNTS, DIRECTORY, FIELD, Found, MOST_DECKS, MOST_ENTRIES, MOST_WORDS, PURGED, UPPER,
-};
+use library::{COUNTS, DIRECTORY, FIELD, MOST_DECKS, MOST_ENTRIES, MOST_WORDS, PURGED, UPPER};
 
 const LEAST_WORDS: usize = 3;
 
 // the first number of more than 60 bits
 const TOO_LARGE: u64 = 0o100000000000000000000;
 
-fn large_word(image: &[u64]) -> Found
+fn large_word(image: &[u64]) -> Option<usize>
     ensures { result ≡ found (place_from not_word 0 image.now) }
 {
-    let mut i = 0;
-    while i < image.len() {
-        if TOO_LARGE <= image[i] {
-            return Found::At(i);
-        }
-        i += 1;
-    }
-    Found::Nothing
+    image.iter().position(|w| TOO_LARGE <= *w)
 }
 
-pub(crate) fn size_fault(image: &[u64]) -> Found
+pub(crate) fn size_fault(image: &[u64]) -> Option<usize>
     ensures { result ≡ found (row1 image.now) }
 {
     let n = image.len();
     if n < LEAST_WORDS {
-        return Found::At(n);
+        return Some(n);
     }
     if MOST_WORDS < n {
-        return Found::At(MOST_WORDS);
+        return Some(MOST_WORDS);
     }
     large_word(image)
 }
 
-pub(crate) fn header_fault(image: &[u64]) -> Found
+pub(crate) fn header_fault(image: &[u64]) -> Option<usize>
     requires { 3 ≤ length image.now }
     ensures { result ≡ found (row2 image.now) }
 {
     if image[0] == library::header_word() {
-        Found::Nothing
+        None
     } else {
-        Found::At(0)
+        Some(0)
     }
 }
 
@@ -88,18 +79,18 @@ fn counts_fault(counts: u64) -> bool
     (MOST_DECKS as u64) < counts % FIELD
 }
 
-pub(crate) fn tables_fault(image: &[u64]) -> Found
+pub(crate) fn tables_fault(image: &[u64]) -> Option<usize>
     requires { 3 ≤ length image.now }
     ensures { result ≡ found (row3 image.now) }
 {
     if counts_fault(image[COUNTS]) {
-        return Found::At(COUNTS);
+        return Some(COUNTS);
     }
     let cards = DIRECTORY + entries_of(image) + decks_of(image);
     if image.len() < cards {
-        return Found::At(COUNTS);
+        return Some(COUNTS);
     }
-    Found::Nothing
+    None
 }
 
 fn is_name_word(w: u64) -> bool
@@ -126,18 +117,16 @@ fn entry_ok(directory: &[u64], at: usize) -> bool
     is_name_word(w)
 }
 
-fn entries_fault(directory: &[u64]) -> Found
+fn entries_fault(directory: &[u64]) -> Option<usize>
     requires { length directory.now ≤ 1023 }
     ensures { result ≡ found (first_bad ok_entry [] 2 directory.now) }
 {
-    let mut i = 0;
-    while i < directory.len() {
+    for i in 0..directory.len() {
         if !entry_ok(directory, i) {
-            return Found::At(DIRECTORY + i);
+            return Some(DIRECTORY + i);
         }
-        i += 1;
     }
-    Found::Nothing
+    None
 }
 
 fn deck_word_ok(directory: &[u64], decks: &[u64], at: usize) -> bool
@@ -158,21 +147,19 @@ fn deck_word_ok(directory: &[u64], decks: &[u64], at: usize) -> bool
 }
 
 // `first` is the place of the deck list.
-fn deck_words_fault(directory: &[u64], decks: &[u64], first: usize) -> Found
+fn deck_words_fault(directory: &[u64], decks: &[u64], first: usize) -> Option<usize>
     requires { first + length decks.now ≤ 65536 }
     ensures { result ≡ found (first_bad (ok_deck_word directory.now) [] first decks.now) }
 {
-    let mut i = 0;
-    while i < decks.len() {
+    for i in 0..decks.len() {
         if !deck_word_ok(directory, decks, i) {
-            return Found::At(first + i);
+            return Some(first + i);
         }
-        i += 1;
     }
-    Found::Nothing
+    None
 }
 
-pub(crate) fn name_fault(image: &[u64]) -> Found
+pub(crate) fn name_fault(image: &[u64]) -> Option<usize>
     requires sized { Sized image.now }
     requires tabled { Tabled image.now }
     ensures { result ≡ found (row4 image.now) }
@@ -181,7 +168,7 @@ pub(crate) fn name_fault(image: &[u64]) -> Found
     let cards = first + decks_of(image);
     let directory = &image[DIRECTORY..first];
     match entries_fault(directory) {
-        Found::At(p) => Found::At(p),
-        Found::Nothing => deck_words_fault(directory, &image[first..cards], first),
+        Some(p) => Some(p),
+        None => deck_words_fault(directory, &image[first..cards], first),
     }
 }
