@@ -4,7 +4,7 @@ ghost use Rattle.library.specs.Image.{header};
 ghost use Rattle.library_store.specs.Stored.{library_words, has_room, library_into};
 
 use library::DIRECTORY;
-use words_lists::put_words;
+use words_lists::put;
 
 // A count's field, of 18 bits, ends below this.
 const FIELD: usize = 262144;
@@ -47,10 +47,10 @@ fn put_library(directory: &[u64], decks: &[u64], low: &[u64], high: &[u64], spac
     let k = decks.len();
     let cards = DIRECTORY + n + k;
     put_header(space, n, k);
-    put_words(directory, space, DIRECTORY);
-    put_words(decks, space, DIRECTORY + n);
-    put_words(low, space, cards);
-    put_words(high, space, cards + low.len());
+    put(directory, space, DIRECTORY);
+    put(decks, space, DIRECTORY + n);
+    put(low, space, cards);
+    put(high, space, cards + low.len());
 }
 
 // A library's image of its directory, its deck list and its cards in two parts, where the space has room; whether it has.
