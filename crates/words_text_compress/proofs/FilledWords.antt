@@ -3,11 +3,11 @@ use Prim.Native.Nat.{ℕ, zero, suc, ◌+◌, ◌-◌, ◌*◌, ◌^◌, ◌≤�
 use native.Mathlib.Omega.{arith}
 use native.Mathlib.Numerals.{add-one}
 use mathlib.Core.Path.{◌≡◌, sym, ap, ap₂, ◌∙◌}
-use mathlib.Core.List.{List, [], ◌∷◌, ◌++◌, append_assoc, append-nil}
+use mathlib.Core.List.{List, [], ◌∷◌, ◌++◌}
 use borrow.Author.Tests.{ne_eqb}
 use lib.Dec.{T, ltb→lt, lit<}
 use lib.ListN.{length, get_or, take, drop, set, length-append, drop_of_length-le, take-append-drop}
-use lib.Seq.{drop-cons, take-suc-set, drop-set-lt, drop-drop, length-take-le}
+use lib.Seq.{take-suc-set, drop-set-lt, drop-drop, length-take-le}
 use Rattle.words.specs.Base.{all}
 use Rattle.words.specs.Text.{fill, words_of}
 use Rattle.words.proofs.TestParts.{and_left, and_right}
@@ -21,17 +21,6 @@ codes-below (x ∷ xs) t (suc j) = codes-below xs (and_right (is_code x) (all is
 -- ONE CODE MORE
 abbrev pub codes_owed : List ℕ → List ℕ → ℕ → ℕ → ℕ → ℕ → List ℕ
 codes_owed cs d m w k i = take m d ++ fill w (10 - k) (drop i cs)
-
-module _ (cs : List ℕ) (w k i : ℕ) (inside : i < length cs) where
-  pub owed_more : (d : List ℕ) (m : ℕ) → k < 10 → codes_owed cs d m (w * 64 + get_or cs i 0) (k + 1) (i + 1) ≡ codes_owed cs d m w k i
-  owed_more d m h =
-      let e : 10 - k ≡ suc (10 - (k + 1)) = omega arith in
-      rw (e, add-one i, drop-cons cs i 0 inside)
-
-  pub owed-next : (d : List ℕ) (m : ℕ) → k ≡ 10 → m < length d → codes_owed cs (set d m w) (m + 1) (get_or cs i 0) 1 (i + 1) ≡ codes_owed cs d m w k i
-  owed-next d m e h =
-      rw (e, add-one i, add-one m, drop-cons cs i 0 inside, take-suc-set d m w h)
-      (append_assoc (take m d) (w ∷ []) (fill (get_or cs i 0) 9 (drop (suc i) cs)))
 
 -- what is not written yet
 pub beyond-more : (d e : List ℕ) (m w : ℕ) → drop m e ≡ drop m d → drop (m + 1) (set e m w) ≡ drop (m + 1) d
@@ -50,12 +39,6 @@ pub record Filled (cs d e : List ℕ) (m w k i : ℕ) : Type 0 where
 
 -- THE END
 module _ (cs d e : List ℕ) (m w k i : ℕ) (over : length cs ≤ i) (owed : codes_owed cs e m w k i ≡ words_of cs) (rest : drop m e ≡ drop m d) where
-  pub fill-whole : m ≤ length e → k ≡ 0 → (m ≡ length (words_of cs)) × (e ≡ words_of cs ++ drop m d)
-  fill-whole room z =
-      let a : take m e ≡ words_of cs = sym (append-nil (take m e)) ∙ rw (drop_of_length-le cs over, z) at owed in
-      let n : length (take m e) ≡ m = length-take-le m e room in
-      (omega (arith, ap length a), sym (take-append-drop m e) ∙ ap₂ ◌++◌ a rest)
-
   pub fill-part : m < length e → k ≤ 10 → (k ≡ 0 → ⊥)
       → (m + 1 ≡ length (words_of cs)) × (set e m (w * 64 ^ (10 - k)) ≡ words_of cs ++ drop (m + 1) d)
   fill-part room le z =

@@ -4,5 +4,3 @@ pub mod CodesBehind
 pub mod SqueezedLine
 -- Words filled with ten codes each, one code at a time.
 pub mod FilledWords
--- What compressing answers, one law for each way out.
-pub mod CompressAnswer

@@ -2,7 +2,7 @@
 ghost use Rattle.std.specs.Prelude.{◌≡◌, ◌++◌, ℕ, ◌≤◌, ◌<◌, length, get_or, drop};
 ghost use Rattle.words.specs.Text.{words_of};
 
-use words::{BASE, TEN, power, wide};
+use words::{BASE, TEN, power};
 
 // Ten codes fill a word, and zeros what is left of the last: w has the codes of the word so far, of which there are k.
 pub(crate) fn fill(codes: &[u8], words: &mut [u64]) -> usize
@@ -15,17 +15,14 @@ pub(crate) fn fill(codes: &[u8], words: &mut [u64]) -> usize
     let mut m = 0;
     let mut w = 0;
     let mut k = 0;
-    let mut i = 0;
-    while i < codes.len() {
-        let c = wide(codes[i]);
-        i += 1;
+    for c in codes {
         if k == TEN {
             words[m] = w;
             m += 1;
-            w = c;
+            w = u64::from(*c);
             k = 1;
         } else {
-            w = w * BASE + c;
+            w = w * BASE + u64::from(*c);
             k += 1;
         }
     }

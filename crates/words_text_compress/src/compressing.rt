@@ -32,6 +32,7 @@ fn write(line: &[u8], text: &mut [u64]) -> usize
 }
 
 // How many words were written, or why none was.
+#[tactic(auto, unfolding(crate::specs::Answers::compressing, crate::specs::Answers::compress_into))]
 pub fn compress(line: &[u8], text: &mut [u64; WORDS]) -> Result<usize, LineRefused>
     ensures value { result ≡ compressing line.now }
     ensures text_after { text.new ≡ compress_into line.now text.old }

@@ -33,16 +33,12 @@ fn put_run(n: usize, codes: &mut [u8], at: usize) -> usize
     ensures value { result ≡ at + length (short_run n) }
     ensures codes_after { take result codes.new ≡ take at codes.old ++ short_run n }
 {
-    if n == 0 {
-        return at;
+    match n {
+        0 => at,
+        1 => put_one(GAP, codes, at),
+        2 => put_two(GAP, GAP, codes, at),
+        _ => put_two(0, (n - 1) as u8, codes, at),
     }
-    if n == 1 {
-        return put_one(GAP, codes, at);
-    }
-    if n == 2 {
-        return put_two(GAP, GAP, codes, at);
-    }
-    put_two(0, (n - 1) as u8, codes, at)
 }
 
 // A run of blanks inside a line, which has fewer than 128.
@@ -78,7 +74,7 @@ fn put_lead(line: &[u8], codes: &mut [u8]) -> usize
     ensures upper_bound_2 { result ≤ length line.now }
     ensures line_after { take result codes.new ++ squeeze 0 (map code_of (drop result line.now)) ≡ compress (map code_of line.now) }
 {
-    if line.len() == 0 {
+    if line.is_empty() {
         return 0;
     }
     if line[0] == BLANK {
@@ -95,16 +91,13 @@ pub(crate) fn put_line(line: &[u8], codes: &mut [u8]) -> usize
     ensures codes_after { take result codes.new ≡ compress (map code_of line.now) }
 {
     let mut at = put_lead(line, codes);
-    let mut i = at;
     let mut n = 0;
-    while i < line.len() {
-        let b = line[i];
-        i += 1;
-        if b == BLANK {
+    for b in &line[at..] {
+        if *b == BLANK {
             n += 1;
         } else {
             let next = put_blanks(n, codes, at);
-            at = put_sign(code_of(b), codes, next);
+            at = put_sign(code_of(*b), codes, next);
             n = 0;
         }
     }
