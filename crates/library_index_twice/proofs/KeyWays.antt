@@ -3,7 +3,6 @@
 --   Seeking, seek-..                 the search, one law for each way out of it
 use Prim.Native.Nat.{ℕ, zero, suc, ◌+◌, ◌*◌, ◌/◌, ◌%◌, ◌≤◌, ◌<◌}
 use native.Mathlib.Omega.{arith}
-use native.Mathlib.Decide.{dec_le}
 use mathlib.Core.Path.{◌≡◌, refl, sym, ap, ◌∙◌, subst}
 use mathlib.Core.Bool.{Bool, true, false}
 use mathlib.Core.List.{List}
@@ -11,6 +10,7 @@ use lib.Dec.{eqb}
 use lib.ListN.{get_or, set, replicate, length-set, length-replicate}
 use lib.Seq.{get_or-set_same, get_or-set_other}
 use borrow.Author.Tests.{eqb-true, eqb-false}
+use borrow.Author.Count.{below_more}
 use Rattle.library_index_twice.specs.KeyTree.{way_of, Leads, Tree, Stood}
 use Rattle.library_index_twice.proofs.WaysKept.{Keeps, lead-on, leads-kept}
 use Rattle.library_index_twice.proofs.KeysAhead.{in-ahead, not-ahead}
@@ -44,24 +44,6 @@ module _ (keys ways : List ℕ) (n : ℕ) (tree : Tree keys ways n) where
     ahead = λ m lt e. subst (λ (x : ℕ). (k : ℕ) × Leads ways k 0 x m) e (tree.leads m lt);
     whole = λ ways' keeps m k l. (k, l);
   }
-
-  -- the first key of all
-  seek-first : n ≡ 0 → Stood keys n false ways
-  seek-first z = (
-    sym (not-ahead key n keys (λ m lt. absurd (omega arith))),
-    λ e. record {
-      long = tree.long;
-      rises = λ at rest h. let r = tree.rises at rest h in (r.0, omega (arith, r.1));
-      leads = λ m lt. (0, omega arith);
-    },
-  )
-
-  pub seek-end : (at rest : ℕ) → Seeking keys ways n key at rest → n ≤ at → Stood keys n false ways
-  seek-end at rest seek le = go (dec_le 1 n)
-    where
-      go : Dec (1 ≤ n) → Stood keys n false ways
-      go (yes some) = absurd (let lt : at < n = seek.inside some in omega arith)
-      go (no none) = seek-first (omega arith)
 
   module _ (at rest : ℕ) (seek : Seeking keys ways n key at rest) (lt : at < n) where
     pub seek_found : get_or keys at 0 ≡ key → Stood keys n true ways
@@ -116,11 +98,9 @@ module _ (keys ways : List ℕ) (n : ℕ) (tree : Tree keys ways n) where
                 (omega (arith, v, p.0), omega (arith, v, p.1))
 
         leading : (m : ℕ) → m < n + 1 → (k : ℕ) × Leads ways' k 0 (get_or keys m 0) m
-        leading m l = go (dec_le n m)
-          where
-            go : Dec (n ≤ m) → (k : ℕ) × Leads ways' k 0 (get_or keys m 0) m
-            go (yes le) = let z : n ≡ m = omega arith in subst (λ (i : ℕ). (k : ℕ) × Leads ways' k 0 (get_or keys i 0) i) z new
-            go (no gt) = let p = tree.leads m (omega arith) in (p.0, leads-kept ways ways' keeps p.0 0 (get_or keys m 0) m p.1)
+        leading =
+            below_more (λ m. (k : ℕ) × Leads ways' k 0 (get_or keys m 0) m) n
+            (λ m l. let p = tree.leads m l in (p.0, leads-kept ways ways' keeps p.0 0 (get_or keys m 0) m p.1)) new
 
         pub seek-put : Stood keys n false (set ways (way_of at rest) n)
         seek-put = (

@@ -4,14 +4,13 @@
 use Rattle.std.specs.Prelude.{if◌then◌else◌}
 use Prim.Native.Nat.{ℕ, zero, suc, ◌+◌, ◌≤◌, ◌<◌}
 use native.Mathlib.Omega.{arith}
-use native.Mathlib.Nat.{add-zero}
 use native.Mathlib.Numerals.{add-one}
 use native.Mathlib.Decide.{dec_le}
 use mathlib.Core.Path.{◌≡◌, refl, sym, ap, ◌∙◌}
 use mathlib.Core.Bool.{Bool, true, false, ◌||◌}
 use mathlib.Core.List.{List}
 use lib.Dec.{eqb}
-use lib.ListN.{length, get_or, drop, drop_of_length-le}
+use lib.ListN.{length, get_or, drop}
 use lib.Seq.{drop-cons}
 use borrow.Author.Tests.{eq-eqb, ne_eqb}
 use Rattle.words.proofs.TestParts.{or-true}
@@ -40,26 +39,15 @@ not-ahead key (suc n) keys none =
 abbrev pub Until : List ℕ → ℕ → Type 0
 Until keys n = first_twice keys ≡ n + twice_from (ahead_of n keys) (drop n keys)
 
-module _ (keys : List ℕ) where
-  pub until-start : Until keys 0
-  until-start = omega arith
+module _ (keys : List ℕ) (n : ℕ) (h : Until keys n) (lt : n < length keys) where
+  abbrev chosen : Bool → ℕ
+  chosen b = if b then 0 else suc (twice_from (ahead_of (suc n) keys) (drop (suc n) keys))
 
-  module _ (n : ℕ) (h : Until keys n) where
-    pub until_end : length keys ≤ n → n ≡ first_twice keys
-    until_end le = sym (h ∙ ap (λ (l : List ℕ). n + twice_from (ahead_of n keys) l) (drop_of_length-le keys le) ∙ add-zero n)
+  next : twice_from (ahead_of n keys) (drop n keys) ≡ chosen (member (get_or keys n 0) (ahead_of n keys))
+  next = ap (twice_from (ahead_of n keys)) (drop-cons keys n 0 lt)
 
-    module _ (lt : n < length keys) where
-      abbrev chosen : Bool → ℕ
-      chosen b = if b then 0 else suc (twice_from (ahead_of (suc n) keys) (drop (suc n) keys))
-
-      next : twice_from (ahead_of n keys) (drop n keys) ≡ chosen (member (get_or keys n 0) (ahead_of n keys))
-      next = ap (twice_from (ahead_of n keys)) (drop-cons keys n 0 lt)
-
-      pub until-here : member (get_or keys n 0) (ahead_of n keys) ≡ true → n ≡ first_twice keys
-      until-here e = sym (h ∙ ap (λ (m : ℕ). n + m) (next ∙ ap chosen e) ∙ add-zero n)
-
-      pub until-on : member (get_or keys n 0) (ahead_of n keys) ≡ false → Until keys (n + 1)
-      until-on e =
-          let on : twice_from (ahead_of n keys) (drop n keys) ≡ suc (twice_from (ahead_of (suc n) keys) (drop (suc n) keys)) = next ∙ ap chosen e in
-          let later : first_twice keys ≡ suc n + twice_from (ahead_of (suc n) keys) (drop (suc n) keys) = omega (arith, h, on) in
-          later ∙ ap (λ (m : ℕ). m + twice_from (ahead_of m keys) (drop m keys)) (sym (add-one n))
+  pub until-on : member (get_or keys n 0) (ahead_of n keys) ≡ false → Until keys (n + 1)
+  until-on e =
+      let on : twice_from (ahead_of n keys) (drop n keys) ≡ suc (twice_from (ahead_of (suc n) keys) (drop (suc n) keys)) = next ∙ ap chosen e in
+      let later : first_twice keys ≡ suc n + twice_from (ahead_of (suc n) keys) (drop (suc n) keys) = omega (arith, h, on) in
+      later ∙ ap (λ (m : ℕ). m + twice_from (ahead_of m keys) (drop m keys)) (sym (add-one n))

@@ -1,11 +1,6 @@
 -- The sum stays below the number of slots. Assumes nothing.
-use mathlib.Core.Path.{◌≡◌}
-use Prim.Native.Nat.{◌-◌, ◌≤◌}
-use lib.ListN.{length}
+use Prim.Native.Nat.{◌≤◌}
 use Rattle.library_index_twice.proofs.slots.add_up.Given as goal
 
-abbrev pub invariant-loop-i : goal.invariant-loop-i
-invariant-loop-i l = (length l.starts ≡ 1024) × (l.sum ≤ 65536)
-
-abbrev pub decreases-loop-i : goal.decreases-loop-i
-decreases-loop-i l = length l.starts - l.i
+abbrev pub invariant-loop-start : goal.invariant-loop-start
+invariant-loop-start l = l.sum ≤ 65536

@@ -2,5 +2,5 @@
 use Rattle.library_index_twice.proofs.KeyWays.{tree-none}
 use Rattle.library_index_twice.proofs.tree.tree_twice.Goals as goal
 
-pub key_twice-requires : goal.key_twice-requires
-key_twice-requires c = record { keys_len_bound = c.requires; tree = tree-none _ }
+pub key_twice-requires-clause-tree : goal.key_twice-requires-clause-tree
+key_twice-requires-clause-tree c = tree-none _
