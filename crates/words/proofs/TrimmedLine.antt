@@ -94,22 +94,14 @@ trim-stays (x ∷ xs) zero h e = ap (λ (c : Bool). if c && true then [] else (x
 trim-stays (x ∷ []) (suc n) h e = absurd (omega arith)
 trim-stays (x ∷ y ∷ r) (suc n) h e = ap (kept x) (trim-stays (y ∷ r) n (omega arith) e) ∙ kept-some x y (take n r)
 
--- the same, as a loop that counts n down meets it
-pub cut-start : (a : List ℕ) → trim (take (length a) a) ≡ trim a
-cut-start a = rw take-length
+-- the same of a list's own last column
+pub last-blank : (a : List ℕ) → 1 ≤ length a → get_or a (length a - 1) 0 ≡ blank → trim (take (length a - 1) a) ≡ trim a
+last-blank a h e =
+    let f : suc (length a - 1) ≡ length a = omega arith in
+    sym (trim-blank a (length a - 1) (omega arith) e) ∙ ap (λ (n : ℕ). trim (take n a)) f ∙ ap trim (take-length a)
 
-pub cut-here : (a : List ℕ) (n : ℕ) → 0 < n → n ≤ length a → (get_or a (n - 1) 0 ≡ blank → ⊥) → trim (take n a) ≡ trim a → take n a ≡ trim a
-cut-here a zero pos le h e = absurd (omega arith)
-cut-here a (suc m) pos le h e =
-    let f : m ≡ suc m - 1 = omega arith in
-    sym (trim-stays a m le (λ q. h (ap (λ (k : ℕ). get_or a k 0) (sym f) ∙ q))) ∙ e
-
-pub cut_on : (a : List ℕ) (n : ℕ) → 0 < n → n ≤ length a → get_or a (n - 1) 0 ≡ blank → trim (take n a) ≡ trim a → trim (take (n - 1) a) ≡ trim a
-cut_on a zero pos le h e = absurd (omega arith)
-cut_on a (suc m) pos le h e =
-    let f : m ≡ suc m - 1 = omega arith in
-    ap (λ (k : ℕ). trim (take k a)) (sym f) ∙ sym (trim-blank a m le (ap (λ (k : ℕ). get_or a k 0) f ∙ h)) ∙ e
-
-pub cut-none : (a : List ℕ) (n : ℕ) → n ≤ 0 → trim (take n a) ≡ trim a → take n a ≡ trim a
-cut-none a zero le e = e
-cut-none a (suc n) le e = absurd (omega arith)
+pub last-stays : (a : List ℕ) → 1 ≤ length a → (get_or a (length a - 1) 0 ≡ blank → ⊥) → a ≡ trim a
+last-stays a h e =
+    let f : suc (length a - 1) ≡ length a = omega arith in
+    let w : take (suc (length a - 1)) a ≡ a = ap (λ (n : ℕ). take n a) f ∙ take-length a in
+    sym (ap trim (sym w) ∙ trim-stays a (length a - 1) (omega arith) e ∙ w)

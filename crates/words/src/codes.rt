@@ -15,7 +15,7 @@ pub const BITS: usize = 6;
 pub fn wide(x: u8) -> u64
     ensures { result ≡ x }
 {
-    x as u64
+    u64::from(x)
 }
 
 // The place value of a code that has k others behind it in its word; 0 where no word holds so many.

@@ -9,32 +9,27 @@ use crate::display::BLANK;
 // The bytes of the set are those from a blank to an underline, so that no code is asked for.
 const LAST: u8 = b'_';
 
+fn is_of_set(b: u8) -> bool
+    ensures { result ≡ in_chart b }
+{
+    BLANK <= b && b <= LAST
+}
+
 pub fn in_set(line: &[u8]) -> bool
     ensures { result ≡ all in_chart line.now }
 {
-    let mut i = 0;
-    while i < line.len() {
-        let b = line[i];
-        if b < BLANK {
-            return false;
-        }
-        if LAST < b {
-            return false;
-        }
-        i += 1;
-    }
-    true
+    line.iter().all(|b| is_of_set(*b))
 }
 
 pub fn trimmed(line: &[u8]) -> &[u8]
     ensures { result.now ≡ trim line.now }
 {
-    let mut n = line.len();
-    while 0 < n {
-        if line[n - 1] != BLANK {
-            return &line[..n];
+    let mut rest = line;
+    while let [front @ .., last] = rest {
+        if *last != BLANK {
+            return rest;
         }
-        n -= 1;
+        rest = front;
     }
-    &line[..n]
+    rest
 }

@@ -1,29 +1,9 @@
-use native.Mathlib.Omega.{arith}
-use mathlib.Core.Path.{sym}
-use lib.Seq.{length-take-le}
-use Rattle.words.proofs.TrimmedLine.{cut-start, cut-here, cut_on, cut-none}
+use mathlib.Core.Path.{◌∙◌}
+use Rattle.words.proofs.TrimmedLine.{last-blank, last-stays}
 use Rattle.words.proofs.columns.trimmed.Goals as goal
 
-pub loop-n-init : goal.loop-n-init
-loop-n-init c = (omega arith, cut-start c.args.line.now)
+pub returns-then-last-ne-BLANK : goal.returns-then-last-ne-BLANK
+returns-then-last-ne-BLANK c = let l = c.loop-rest in last-stays l.rest.now c.in-len1-up.len_at_least c.if-last-ne-BLANK.true ∙ l.invariant
 
-pub slice_bounds-result-end : goal.slice_bounds-result-end
-slice_bounds-result-end c = sym (length-take-le c.loop-n.n c.args.line.now c.loop-n.invariant.0)
-
-pub returns-then-line-n-ne-BLANK : goal.returns-then-line-n-ne-BLANK
-returns-then-line-n-ne-BLANK c =
-    let l = c.loop-n in
-    cut-here c.args.line.now l.n (omega arith) (omega arith) c.if-line-n-ne-BLANK.true l.invariant.1
-
-pub loop-n-preserved : goal.loop-n-preserved
-loop-n-preserved c =
-    let l = c.loop-n in
-    (omega arith, cut_on c.args.line.now l.n (omega arith) (omega arith) c.if-line-n-ne-BLANK.false l.invariant.1)
-
-pub slice_bounds-result-end-2 : goal.slice_bounds-result-end-2
-slice_bounds-result-end-2 c = sym (length-take-le c.loop-n.n c.args.line.now c.loop-n.invariant.0)
-
-pub returns : goal.returns
-returns c =
-    let l = c.loop-n in
-    cut-none c.args.line.now l.n (omega arith) l.invariant.1
+pub loop-rest-preserved : goal.loop-rest-preserved
+loop-rest-preserved c = let l = c.loop-rest in last-blank l.rest.now c.in-len1-up.len_at_least c.if-last-ne-BLANK.false ∙ l.invariant
