@@ -1,7 +1,11 @@
 -- A list cut at the first element that passes a test, found place by place. Assumes nothing.
---   how far it is                      reach-within, reach-end, reach_here, reach-more
+--   how far it is                      reach-within, reach-position
 --   what is ahead, from there, beyond  take-reach, drop-reach; part-ahead, part-from, tail-beyond, tail-end
-use Rattle.std.specs.Prelude.{if◌then◌else◌}
+use Rattle.std.specs.Prelude.{Some, None, cond, unwrap_or, position, if◌then◌else◌}
+use Rattle.std.specs.List.{position_or_len}
+use Rattle.std.proofs.lemmas.List.Recursion.{is_position_or_len}
+use borrow.Author.Tests.{ltb-false}
+use lib.Dec.{ltb}
 use mathlib.Core.Path.{◌≡◌, refl, sym, ap, ◌∙◌}
 use mathlib.Core.Bool.{Bool, true, false}
 use mathlib.Core.List.{List, [], ◌∷◌}
@@ -43,16 +47,26 @@ module _ (p : ℕ → Bool) where
       by-test true e = refl
       by-test false e = e
 
-  module _ (s : List ℕ) (i : ℕ) where
-    pub reach-end : length s ≤ i → length (take_until p (drop i s)) ≡ 0
-    reach-end h = rw (drop_of_length-le s h)
+  -- the place that the library's search gives
+  first-place : (s : List ℕ) → length (take_until p s) ≡ position_or_len p s
+  first-place = is_position_or_len (λ s. length (take_until p s)) p refl by-test
+    where
+      by-test : (x : ℕ) (xs : List ℕ) → length (take_until p (x ∷ xs)) ≡ cond (p x) 0 (1 + length (take_until p xs))
+      by-test x xs = by-bool (p x)
+        where
+          by-bool : (t : Bool) → length (if t then [] else (x ∷ take_until p xs)) ≡ cond t 0 (1 + length (take_until p xs))
+          by-bool true = refl
+          by-bool false = grind arith
 
-    module _ (inside : i < length s) where
-      pub reach_here : p (get_or s i 0) ≡ true → length (take_until p (drop i s)) ≡ 0
-      reach_here e = rw (drop-cons s i 0 inside, e)
-
-      pub reach-more : p (get_or s i 0) ≡ false → length (take_until p (drop i s)) ≡ suc (length (take_until p (drop (i + 1) s)))
-      reach-more e = rw (drop-cons s i 0 inside, e, add-one)
+  pub reach-position : (s : List ℕ) → unwrap_or (position p s) (length s) ≡ length (take_until p s)
+  reach-position s = rw (← first-place s) (or-end (length (take_until p s)) (length s) (reach-within s))
+    where
+      or-end : (n m : ℕ) → n ≤ m → unwrap_or (cond (ltb n m) (Some n) None) m ≡ n
+      or-end n m h = by-bool (ltb n m) refl
+        where
+          by-bool : (t : Bool) → ltb n m ≡ t → unwrap_or (cond t (Some n) None) m ≡ n
+          by-bool true e = refl
+          by-bool false e = omega (arith, ltb-false n m e)
 
   -- the part of s from `at` to the place e
   module _ (s : List ℕ) (at e : ℕ) (place : e ≡ at + length (take_until p (drop at s))) where

@@ -2,7 +2,7 @@
 --   a step                       Step, step-name, step_end
 --   the names from a place on    names_from, names_more, names-none
 --   a YANK's                     yank-names
-use Rattle.std.specs.Prelude.{if◌then◌else◌}
+use Rattle.std.specs.Prelude.{Some, None, if◌then◌else◌}
 use mathlib.Core.Path.{◌≡◌, refl, sym, ap, ◌∙◌}
 use mathlib.Core.Bool.{Bool, true, false, ◌&&◌, not}
 use mathlib.Core.List.{List, [], ◌∷◌, map}
@@ -20,9 +20,9 @@ use Rattle.words_lines.specs.Reading.{next_name}
 use Rattle.words_lines.specs.declared.CardName.{CardName}
 use Rattle.words_lines.specs.declared.Kind.{Kind}
 use Rattle.words_lines.specs.declared.Kind.TheVariants.{Text as k_text, Skipped as k_skipped, NotCarried as k_not_carried, Deck as k_deck, Comdeck as k_comdeck, Ident as k_ident, Insert as k_insert, Before as k_before, Delete as k_delete, Restore as k_restore, Yank as k_yank}
+use Rattle.words_lines.specs.declared.NameAt.{NameAt}
 use Rattle.words_lines.specs.declared.Line.{Line}
 use Rattle.words_lines.specs.declared.Line.TheVariants.{Text, Skipped, Deck, Comdeck, Ident, Insert, Before, Delete, Restore, Yank, Outside, Long, Malformed, NotCarried}
-use Rattle.words_lines.specs.declared.NameStep.TheVariants.{Name, End}
 use Rattle.words_lines.proofs.SplitList.{parts_from, part-fits, parts_none, parts_more}
 use Rattle.words_lines.proofs.NamesByWord.{and_left, and_right, name-word}
 
@@ -35,42 +35,49 @@ pub record Step (f : List ℕ) (at w n : ℕ) : Type 0 where
   pub bound : n ≤ length f + 1
 
 module _ (f : List ℕ) (at : ℕ) where
-  pub step-name : (w n : ℕ) → next_name f at ≡ Name w n → Step f at w n
+  pub step-name : (n : NameAt) → next_name f at ≡ Some n → Step f at n.word n.next
   unfolding next_name
-  step-name w n e = by-test (ltb (length f) at) refl e
+  step-name n e = by-test (ltb (length f) at) refl e
     where
       part : List ℕ
       part = take_until is_comma (drop at f)
 
-      by-test : (t : Bool) → ltb (length f) at ≡ t → (if t then End else Name (word_of_name part) (at + (length part + 1))) ≡ Name w n → Step f at w n
-      by-test true h e = absurd (let z : ◌≡◌ {A = ℕ} 0 1 = cc in omega arith)
+      here : NameAt
+      here = record { word = word_of_name part; next = at + (length part + 1) }
+
+      by-test : (t : Bool) → ltb (length f) at ≡ t → (if t then None else Some here) ≡ Some n → Step f at n.word n.next
+      by-test true h e = absurd (cc)
       by-test false h e =
           let inside : at ≤ length f = ltb-false _ _ h in
           let fits : at + length part ≤ length f = part-fits is_comma at f inside part refl in
-          let word : w ≡ word_of_name part = cc in
-          let next : n ≡ at + (length part + 1) = cc in
+          let is : here ≡ n = cc in
+          let word : n.word ≡ word_of_name part = ap (λ (m : NameAt). m.word) (sym is) in
+          let next : n.next ≡ at + (length part + 1) = ap (λ (m : NameAt). m.next) (sym is) in
           record { inside = inside; word = word; next = next; falls = omega arith; bound = omega arith }
 
-  pub step_end : next_name f at ≡ End → length f < at
+  pub step_end : next_name f at ≡ None → length f < at
   unfolding next_name
   step_end e = by-test (ltb (length f) at) refl e
     where
-      by-test : (t : Bool) → ltb (length f) at ≡ t → (if t then End else Name (word_of_name (take_until is_comma (drop at f))) (at + (length (take_until is_comma (drop at f)) + 1))) ≡ End → length f < at
+      here : NameAt
+      here = record { word = word_of_name (take_until is_comma (drop at f)); next = at + (length (take_until is_comma (drop at f)) + 1) }
+
+      by-test : (t : Bool) → ltb (length f) at ≡ t → (if t then None else Some here) ≡ None → length f < at
       by-test true h e = ltb-true _ _ h
-      by-test false h e = absurd (let z : ◌≡◌ {A = ℕ} 0 1 = cc in omega arith)
+      by-test false h e = absurd (cc)
 
 unfoldable pub names_from : List ℕ → ℕ → List ℕ
 names_from f at = map word_of_name (parts_from is_comma at f)
 
 module _ (f : List ℕ) (at : ℕ) where
-  pub names-none : next_name f at ≡ End → names_from f at ≡ []
+  pub names-none : next_name f at ≡ None → names_from f at ≡ []
   unfolding names_from
   names-none e = rw (parts_none is_comma at f (step_end f at e))
 
-  pub names_more : (w n : ℕ) → next_name f at ≡ Name w n → names_from f at ≡ w ∷ names_from f n
+  pub names_more : (n : NameAt) → next_name f at ≡ Some n → names_from f at ≡ n.word ∷ names_from f n.next
   unfolding names_from
-  names_more w n e =
-      let s = step-name f at w n e in
+  names_more n e =
+      let s = step-name f at n e in
       rw (parts_more is_comma at f s.inside (take_until is_comma (drop at f)) refl, s.word, s.next)
 
 -- A YANK'S NAMES: of a line that asks to yank all parameters are names, and the walk from 0 gives their words

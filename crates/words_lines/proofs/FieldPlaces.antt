@@ -54,7 +54,7 @@ module _ (l : List ℕ) (e : ℕ) (place : e ≡ 1 + length (take_until ends_nam
     after-blanks is-not n there =
         rw (← rest, drop-cons l e 0 inside, ne_eqb _ _ is-not) (rw add-one at (part-from not_blank l (e + 1) n there))
 
-eqb_comm : (a b : ℕ) → eqb a b ≡ eqb b a
+pub eqb_comm : (a b : ℕ) → eqb a b ≡ eqb b a
 eqb_comm a b = by-test (eqb a b) refl
   where
     by-test : (t : Bool) → eqb a b ≡ t → t ≡ eqb b a

@@ -1,7 +1,11 @@
 -- A list split at the elements that pass a test, and a question put to each part. Assumes nothing.
 --   the parts from a place on     parts_from, parts_none, parts_more, part-fits
 --   one of them, all of them      any_none, any_here, any_next, all_none, all-next, all-not
-use Rattle.std.specs.Prelude.{if◌then◌else◌}
+--   in the library's words        split-slice, any-list, all-list, same-bytes
+use Rattle.std.specs.Prelude.{cond, if◌then◌else◌}
+use Rattle.std.specs.List.{list_any, list_all, slice_split, onto_first}
+use Rattle.std.specs.Cmp.Lexicographic.{pointwise}
+use lib.Dec.{eqb}
 use mathlib.Core.Path.{◌≡◌, refl, ap, ◌∙◌}
 use mathlib.Core.Bool.{Bool, true, false}
 use mathlib.Core.List.{List, [], ◌∷◌}
@@ -9,8 +13,9 @@ use Prim.Native.Nat.{ℕ, zero, suc, ◌+◌, ◌≤◌, ◌<◌}
 use native.Mathlib.Nat.{zero-add, add-zero, suc-add}
 use native.Mathlib.Omega.{arith}
 use lib.ListN.{length, drop, length-drop}
-use Rattle.words.specs.Base.{any, all, take_until, into, split}
+use Rattle.words.specs.Base.{any, all, same, take_until, into, split}
 use Rattle.words_lines.proofs.CutAtFirst.{reach-within}
+use Rattle.words_lines.proofs.FieldPlaces.{eqb_comm}
 
 -- the parts from a place on: none past the end
 abbrev pub parts_from : (ℕ → Bool) → ℕ → List ℕ → List (List ℕ)
@@ -68,3 +73,31 @@ module _ (p : ℕ → Bool) where
 
     pub all_none : all q (parts_from p at s) ≡ true
     all_none = rw (parts_none at s past)
+
+-- IN THE LIBRARY'S WORDS
+module _ {A : Type 0} (p q : A → Bool) (equal : (x : A) → p x ≡ q x) where
+  pub any-list : (xs : List A) → list_any p xs ≡ any q xs
+  any-list [] = refl
+  any-list (x ∷ xs) = rw (equal x, any-list xs)
+
+  pub all-list : (xs : List A) → list_all p xs ≡ all q xs
+  all-list [] = refl
+  all-list (x ∷ xs) = rw (equal x, all-list xs)
+
+onto-into : (x : ℕ) (ls : List (List ℕ)) → onto_first x ls ≡ into x ls
+onto-into x [] = refl
+onto-into x (l ∷ ls) = refl
+
+pub split-slice : (p q : ℕ → Bool) → ((x : ℕ) → p x ≡ q x) → (s : List ℕ) → slice_split p s ≡ split q s
+split-slice p q equal [] = refl
+split-slice p q equal (x ∷ xs) = rw (equal x, split-slice p q equal xs) (by-test (q x))
+  where
+    by-test : (t : Bool) → cond t ([] ∷ split q xs) (onto_first x (split q xs)) ≡ if t then ([] ∷ split q xs) else into x (split q xs)
+    by-test true = refl
+    by-test false = onto-into x (split q xs)
+
+pub same-bytes : (a b : List ℕ) → pointwise eqb a b ≡ same b a
+same-bytes [] [] = refl
+same-bytes [] (y ∷ ys) = refl
+same-bytes (x ∷ xs) [] = refl
+same-bytes (x ∷ xs) (y ∷ ys) = rw (eqb_comm x y, same-bytes xs ys)

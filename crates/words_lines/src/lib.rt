@@ -14,7 +14,7 @@ pub use scan::{part_after, part_at};
 pub use stream::line_at;
 
 // What a directive's name asks for.
-#[derive(Clone, Copy)]
+#[derive(Clone, Copy, PartialEq, Eq)]
 pub enum Kind {
     Text,
     Skipped,
@@ -30,14 +30,14 @@ pub enum Kind {
 }
 
 // A card as a directive names it: its owner's name as a directory word, and its number.
-#[derive(Clone, Copy)]
+#[derive(Clone, Copy, PartialEq, Eq)]
 pub struct CardName {
     pub name: u64,
     pub seq: u64,
 }
 
 // What a line of a stream, or of a card, says.
-#[derive(Clone, Copy)]
+#[derive(Clone, Copy, PartialEq, Eq)]
 pub enum Line {
     Text,
     Skipped,
@@ -60,7 +60,7 @@ pub enum Line {
 }
 
 // What a card says when the compile file is written.
-#[derive(Clone, Copy)]
+#[derive(Clone, Copy, PartialEq, Eq)]
 pub enum Call {
     Not,
     Of(u64),
@@ -74,8 +74,8 @@ pub struct NameAt {
     pub next: usize,
 }
 
-// What a search stops at.
-#[derive(Clone, Copy)]
+// What a search stops at. An enum: the definition `stops_at` has these tests, and a caller proves nothing about a closure.
+#[derive(Clone, Copy, PartialEq, Eq)]
 pub enum Stop {
     // a line's end
     Line,

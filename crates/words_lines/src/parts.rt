@@ -13,11 +13,7 @@ pub(crate) const SLASH: u8 = b'/';
 pub(crate) fn stands_at(line: &[u8], at: usize, b: u8) -> bool
     ensures { result ≡ starts b (drop at line.now) }
 {
-    if at < line.len() {
-        b == line[at]
-    } else {
-        false
-    }
+    line.get(at) == Some(&b)
 }
 
 // What stands between column 1 and the name's end.
@@ -32,7 +28,7 @@ fn field_start(line: &[u8]) -> usize
     ensures within { result ≤ length line.now }
     ensures start { drop result line.now ≡ after_name line.now }
 {
-    if line.len() == 0 {
+    if line.is_empty() {
         return 0;
     }
     let e = place_of(line, 1, Stop::Name);

@@ -33,14 +33,8 @@ pub(crate) fn place_of(s: &[u8], at: usize, stop: Stop) -> usize
     ensures place { result ≡ at + length (take_until (stops_at stop) (drop at s.now)) }
     ensures within { result ≤ length s.now }
 {
-    let mut i = at;
-    while i < s.len() {
-        if stops(stop, s[i]) {
-            return i;
-        }
-        i += 1;
-    }
-    i
+    let rest = &s[at..];
+    at + rest.iter().position(|b| stops(stop, *b)).unwrap_or(rest.len())
 }
 
 // What stands from `at` up to where the search stops; past the end nothing.
@@ -65,33 +59,9 @@ pub fn part_after(s: &[u8], stop: Stop) -> &[u8]
     &s[e + 1..]
 }
 
-pub(crate) fn same(a: &[u8], b: &[u8]) -> bool
-    ensures { result ≡ same a.now b.now }
-{
-    if a.len() != b.len() {
-        return false;
-    }
-    let mut i = 0;
-    while i < a.len() {
-        if a[i] != b[i] {
-            return false;
-        }
-        i += 1;
-    }
-    true
-}
-
 // Whether a name is one of those that blanks part in `names`.
 pub(crate) fn listed(name: &[u8], names: &[u8]) -> bool
     ensures { result ≡ any (same name.now) (split (eqb blank) names.now) }
 {
-    let mut at = 0;
-    while at <= names.len() {
-        let part = part_at(names, at, Stop::Blank);
-        if same(name, part) {
-            return true;
-        }
-        at += part.len() + 1;
-    }
-    false
+    names.split(|b| *b == BLANK).any(|part| part == name)
 }

@@ -1,65 +1,7 @@
--- Each test is a row of the table: where it fails, the rows after it decide.
-use mathlib.Core.Path.{sym, ◌∙◌}
-use lib.Dec.{lit<}
+-- The table of the code is that of the definition.
 use Rattle.words_lines.specs.Directive.{kind_of}
-use Rattle.words_lines.proofs.DirectiveRow.{Past, row_here, row_next}
 use Rattle.words_lines.proofs.kinds.kind_of.Goals as goal
-
-pub returns-then-listed : goal.returns-then-listed
-unfolding kind_of
-returns-then-listed c = sym (row_here c.args.name.now 0 (lit< tt) (sym c.listed.ensures ∙ c.if-listed.true))
-
-pub returns-then-listed-2 : goal.returns-then-listed-2
-unfolding kind_of
-returns-then-listed-2 c =
-    let name-1 = c.args.name.now in
-    let past-1 : Past name-1 0 1 = row_next name-1 0 (lit< tt) (sym c.listed.ensures ∙ c.if-listed.false) in
-    sym (past-1 ∙ row_here name-1 1 (lit< tt) (sym c.listed-2.ensures ∙ c.if-listed-2.true))
-
-pub returns-then-listed-3 : goal.returns-then-listed-3
-unfolding kind_of
-returns-then-listed-3 c =
-    let name-1 = c.args.name.now in
-    let past-1 : Past name-1 0 1 = row_next name-1 0 (lit< tt) (sym c.listed.ensures ∙ c.if-listed.false) in
-    let name-2 = name-1 in
-    let past-2 : Past name-2 0 2 = past-1 ∙ row_next name-2 1 (lit< tt) (sym c.listed-2.ensures ∙ c.if-listed-2.false) in
-    sym (past-2 ∙ row_here name-2 2 (lit< tt) (sym c.listed-3.ensures ∙ c.if-listed-3.true))
-
-pub returns-then-listed-4 : goal.returns-then-listed-4
-unfolding kind_of
-returns-then-listed-4 c =
-    let name-1 = c.args.name.now in
-    let past-1 : Past name-1 0 1 = row_next name-1 0 (lit< tt) (sym c.listed.ensures ∙ c.if-listed.false) in
-    let name-2 = name-1 in
-    let past-2 : Past name-2 0 2 = past-1 ∙ row_next name-2 1 (lit< tt) (sym c.listed-2.ensures ∙ c.if-listed-2.false) in
-    let name-3 = name-2 in
-    let past-3 : Past name-3 0 3 = past-2 ∙ row_next name-3 2 (lit< tt) (sym c.listed-3.ensures ∙ c.if-listed-3.false) in
-    sym (past-3 ∙ row_here name-3 3 (lit< tt) (sym c.listed-4.ensures ∙ c.if-listed-4.true))
-
-pub returns-then-listed-5 : goal.returns-then-listed-5
-unfolding kind_of
-returns-then-listed-5 c =
-    let name-1 = c.args.name.now in
-    let past-1 : Past name-1 0 1 = row_next name-1 0 (lit< tt) (sym c.listed.ensures ∙ c.if-listed.false) in
-    let name-2 = name-1 in
-    let past-2 : Past name-2 0 2 = past-1 ∙ row_next name-2 1 (lit< tt) (sym c.listed-2.ensures ∙ c.if-listed-2.false) in
-    let name-3 = name-2 in
-    let past-3 : Past name-3 0 3 = past-2 ∙ row_next name-3 2 (lit< tt) (sym c.listed-3.ensures ∙ c.if-listed-3.false) in
-    let name-4 = name-3 in
-    let past-4 : Past name-4 0 4 = past-3 ∙ row_next name-4 3 (lit< tt) (sym c.listed-4.ensures ∙ c.if-listed-4.false) in
-    sym (past-4 ∙ row_here name-4 4 (lit< tt) (sym c.listed-5.ensures ∙ c.if-listed-5.true))
 
 pub returns : goal.returns
 unfolding kind_of
-returns c =
-    let name-1 = c.args.name.now in
-    let past-1 : Past name-1 0 1 = row_next name-1 0 (lit< tt) (sym c.listed.ensures ∙ c.if-listed.false) in
-    let name-2 = name-1 in
-    let past-2 : Past name-2 0 2 = past-1 ∙ row_next name-2 1 (lit< tt) (sym c.listed-2.ensures ∙ c.if-listed-2.false) in
-    let name-3 = name-2 in
-    let past-3 : Past name-3 0 3 = past-2 ∙ row_next name-3 2 (lit< tt) (sym c.listed-3.ensures ∙ c.if-listed-3.false) in
-    let name-4 = name-3 in
-    let past-4 : Past name-4 0 4 = past-3 ∙ row_next name-4 3 (lit< tt) (sym c.listed-4.ensures ∙ c.if-listed-4.false) in
-    let name-5 = name-4 in
-    let past-5 : Past name-5 0 5 = past-4 ∙ row_next name-5 4 (lit< tt) (sym c.listed-5.ensures ∙ c.if-listed-5.false) in
-    c.kind_later.ensures ∙ sym past-5
+returns c = c.kind_in.ensures

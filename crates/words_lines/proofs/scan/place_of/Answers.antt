@@ -1,25 +1,16 @@
-use mathlib.Core.Path.{sym, ◌∙◌}
-use native.Mathlib.Omega.{arith}
+-- The place where the first byte stops the search is as far as what is ahead of it is long.
+use Rattle.std.proofs.Common.{rules, tests, ◌+◌, ◌-◌, length, take, drop, unwrap_or, ap, ◌∙◌}
+use Rattle.std.proofs.lemmas.Iterator.{YieldsList-from_slice}
+use Rattle.std.proofs.lemmas.Iterator.Search.{position_from_yields_List}
+use Rattle.std.proofs.lemmas.List.{take_rest}
 use Rattle.words_lines.specs.Scan.{stops_at}
-use Rattle.words_lines.proofs.CutAtFirst.{reach-end, reach_here, reach-more}
-use borrow.Author.Rules.{rules}
+use Rattle.words_lines.proofs.CutAtFirst.{reach-position}
 use Rattle.words_lines.proofs.scan.place_of.Goals as goal
 
-pub returns-then-stops : goal.returns-then-stops
-returns-then-stops c =
-    let l = c.loop-i in
+pub returns-clause-place : goal.returns-clause-place
+returns-clause-place c =
     let a = c.args in
-    let here = reach_here (stops_at a.stop) a.s.now l.i (search rules) (sym c.stops.ensures ∙ c.if-stops.true) in record { place = omega (arith, l.invariant.1, here); within = l.invariant.0 }
-
-pub loop-i-preserved : goal.loop-i-preserved
-loop-i-preserved c =
-    let l = c.loop-i in
-    let a = c.args in
-    let more = reach-more (stops_at a.stop) a.s.now l.i (search rules) (sym c.stops.ensures ∙ c.if-stops.false) in
-    (search rules, omega (arith, l.invariant.1, more))
-
-pub returns : goal.returns
-returns c =
-    let l = c.loop-i in
-    let a = c.args in
-    let end = reach-end (stops_at a.stop) a.s.now l.i (search rules) in record { place = omega (arith, l.invariant.1, end); within = l.invariant.0 }
+    let p = stops_at a.stop in
+    let rest = take (length a.s.now - a.at) (drop a.at a.s.now) in
+    let r = position_from_yields_List p _ _ c.position.result c.position.ensures.ran (YieldsList-from_slice rest c.iter.ensures.rest) (λ x b q k. search (rules, tests)) in
+    ap (λ n. a.at + n) (c.unwrap_or.ensures ∙ ap (λ o. unwrap_or o (length rest)) r ∙ reach-position p rest ∙ rw take_rest)
