@@ -8,9 +8,5 @@ pub(crate) fn put_gap(n: usize, line: &mut [u8])
     requires { n ≤ length line.old }
     ensures { take n line.new ≡ replicate n 32 }
 {
-    let mut i = 0;
-    while i < n {
-        line[i] = BLANK;
-        i += 1;
-    }
+    line[..n].fill(BLANK);
 }

@@ -4,7 +4,7 @@ ghost use Rattle.words.specs.Names.{number_read, numeral};
 ghost use Rattle.words.specs.Spelt.{word_of_name, name_length, name_into, number_fits, number_into};
 
 use crate::columns::put_gap;
-use words::{BASE, BITS, GAP, TEN, code_of, letter_of, power, wide};
+use words::{BASE, BITS, GAP, TEN, code_of, letter_of, power};
 
 const NAME: usize = 9;
 
@@ -25,26 +25,18 @@ const NINE: u8 = b'9';
 pub fn word_of_name(name: &[u8]) -> u64
     ensures { result ≡ word_of_name name.now }
 {
-    if name.len() == 0 {
-        return 0;
-    }
-    if NAME < name.len() {
+    if name.is_empty() || NAME < name.len() {
         return 0;
     }
     let mut w = 0;
-    let mut i = 0;
-    while i < name.len() {
-        let c = code_of(name[i]);
-        if c <= COLON {
+    for b in name {
+        let c = code_of(*b);
+        if c <= COLON || GAP <= c {
             return 0;
         }
-        if GAP <= c {
-            return 0;
-        }
-        w = w * BASE + wide(c);
-        i += 1;
+        w = w * BASE + u64::from(c);
     }
-    w * power(TEN - i)
+    w * power(TEN - name.len())
 }
 
 fn code_in(word: u64, place: usize) -> u8
@@ -59,20 +51,15 @@ fn name_length(word: u64) -> usize
     ensures { result ≡ name_length word }
 {
     let mut w = 0;
-    let mut i = 0;
-    while i < TEN {
+    for i in 0..TEN {
         let c = code_in(word, i);
         if c == COLON {
-            if w * power(TEN - i) == word {
-                return i;
-            }
-            return 0;
+            return if w * power(TEN - i) == word { i } else { 0 };
         }
         if c >= GAP {
             return 0;
         }
-        w = w * BASE + wide(c);
-        i += 1;
+        w = w * BASE + u64::from(c);
     }
     0
 }
@@ -83,10 +70,8 @@ fn put_letters(word: u64, n: usize, name: &mut [u8])
     requires name_len { length name.old ≡ 9 }
     ensures { name.new ≡ name_into word name.old }
 {
-    let mut i = 0;
-    while i < n {
+    for i in 0..n {
         name[i] = letter_of(code_in(word, i));
-        i += 1;
     }
 }
 
@@ -106,17 +91,11 @@ pub fn number_read(digits: &[u8]) -> u64
         return 0;
     }
     let mut n = 0;
-    let mut i = 0;
-    while i < digits.len() {
-        let d = digits[i];
-        if d < ZERO {
+    for d in digits {
+        if *d < ZERO || NINE < *d {
             return 0;
         }
-        if NINE < d {
-            return 0;
-        }
-        n = n * 10 + wide(d - ZERO);
-        i += 1;
+        n = n * 10 + u64::from(*d - ZERO);
     }
     if LARGEST < n {
         return 0;
@@ -141,7 +120,7 @@ fn put_digits(n: u64, space: &mut [u8]) -> usize
     let mut at = DIGITS - 1;
     while 10 <= m {
         space[at] = digit(m % 10);
-        m = m / 10;
+        m /= 10;
         at -= 1;
     }
     space[at] = digit(m);

@@ -24,8 +24,8 @@ returns-then-w-power c =
     let all : l.i ≡ length (name_of w) = omega (arith, l.invariant.1.1.inside) in
     all ∙ made w (sym (packed-end (name_of w) l.w l.i _ l.invariant.1.1 over few c.power.ensures) ∙ c.if-w-power.true)
 
-pub returns-then-c-eq-COLON : goal.returns-then-c-eq-COLON
-returns-then-c-eq-COLON c =
+pub returns-else-w-power : goal.returns-else-w-power
+returns-else-w-power c =
     let l = c.loop-i in
     let w = c.args.word in
     let few = c.loop-i-test.true in
@@ -58,7 +58,7 @@ loop-i-preserved c =
     let k = c.code_in-c.result in
     let code = left-code w l.i k few is l.invariant.1.0 some in
     let in-name = left-inside w l.i k few is l.invariant.1.0 some in
-    let x : c.wide.result ≡ k = c.wide.ensures in
+    let x : c.from.result ≡ k = c.from.ensures in
     let one = letter-good (get_or (name_of w) l.i 0) k code (omega arith) c.if-c-ge-GAP.false in (
       omega arith,
       (
