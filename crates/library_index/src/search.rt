@@ -6,12 +6,8 @@ ghost use Rattle.library.specs.Library.{entry_of};
 pub fn entry_of(directory: &[u64], w: u64) -> usize
     ensures { result ≡ entry_of directory.now w }
 {
-    let mut i = 0;
-    while i < directory.len() {
-        if directory[i] == w {
-            return i + 1;
-        }
-        i += 1;
-    }
-    0
+    directory
+        .iter()
+        .position(|name| *name == w)
+        .map_or(0, |i| i + 1)
 }
