@@ -1,8 +1,9 @@
 -- Cards as they stand in an image, each place from the one before it. Assumes nothing.
 --   text_at_lem, text-beyond, text-here, text-on   where a card's text starts
---   line-unread, line-short, line_read, line-no-text, line_taken   a line in its columns
+--   line-outside, line_read, line_taken   a line in its columns
 --   places-more, places-end           the cards from a place on
-use Rattle.std.specs.Prelude.{if◌then◌else◌}
+use Rattle.std.specs.Prelude.{◌⊎◌, Option, None, Some, unwrap_or, if◌then◌else◌}
+use Rattle.std.proofs.Common.{inl, inr}
 use Prim.Native.Nat.{ℕ, zero, suc, ◌+◌, ◌-◌, ◌/◌, ◌%◌, ◌^◌, ◌≤◌, ◌<◌}
 use native.Mathlib.Omega.{arith}
 use native.Mathlib.Numerals.{add-one}
@@ -15,7 +16,6 @@ use lib.ListN.{length, get_or, take, drop, length-append, length-drop, drop_of_l
 use lib.Seq.{drop-cons, take_at}
 use Rattle.words.specs.Text.{says, is_text, text_words, words_of}
 use Rattle.words_text_expand.specs.Answers.{expanding, expand_into}
-use Rattle.words_text_expand.specs.declared.Expanded.TheVariants.{Columns, NoText}
 use Rattle.words.proofs.TestParts.{true-T}
 use Rattle.library.specs.Check.{is_last_word}
 use Rattle.library_image.specs.Places.{text_from, text_at, next_at, text_of, line_in, line_into, places_from, places_in}
@@ -66,26 +66,14 @@ lined-some said line ws end n k x =
     let long : length end ≡ length said + length (drop (length said) line) = ap length x ∙ length-append said (drop (length said) line) in
     (omega arith, (k, x))
 
-module _ (ws line end : List ℕ) (n : ℕ) (is : end ≡ expand_into ws line) where
-  line-columns : expanding ws ≡ Columns n → Lined (text_of ws) line ws n end
-  unfolding expanding expand_into
-  line-columns e = go (is_text ws) refl e is
-    where
-      go : (b : Bool) → is_text ws ≡ b → (if b then Columns (length (says ws)) else NoText) ≡ Columns n
-          → end ≡ elim (if b then Columns (length (says ws)) else NoText) [ Columns k ↦ says ws ++ drop k line | NoText ↦ line ]
-          → Lined (if b then says ws else []) line ws n end
-      go true t q x = let k : n ≡ length (says ws) = cc in lined-some (says ws) line ws end n k x
-      go false t q x = absurd (let z : ◌≡◌ {A = ℕ} 0 1 = cc in omega arith)
-
-  line-none : expanding ws ≡ NoText → Lined (text_of ws) line ws 0 end
-  unfolding expanding expand_into
-  line-none e = go (is_text ws) refl e is
-    where
-      go : (b : Bool) → is_text ws ≡ b → (if b then Columns (length (says ws)) else NoText) ≡ NoText
-          → end ≡ elim (if b then Columns (length (says ws)) else NoText) [ Columns k ↦ says ws ++ drop k line | NoText ↦ line ]
-          → Lined (if b then says ws else []) line ws 0 end
-      go true t q x = absurd (let z : ◌≡◌ {A = ℕ} 0 1 = cc in omega arith)
-      go false t q x = lined-some [] line ws end 0 refl x
+lined : (ws line end : List ℕ) → end ≡ expand_into ws line → Lined (text_of ws) line ws (unwrap_or (expanding ws) 0) end
+unfolding expanding expand_into
+lined ws line end is = go (is_text ws) is
+  where
+    go : (b : Bool) → end ≡ elim (if b then Some (length (says ws)) else None) [ Some k ↦ says ws ++ drop k line | None ↦ line ]
+        → Lined (if b then says ws else []) line ws (unwrap_or (if b then Some (length (says ws)) else None) 0) end
+    go true x = lined-some (says ws) line ws end _ refl x
+    go false x = lined-some [] line ws end 0 refl x
 
 text-none : text_of [] ≡ []
 unfolding is_text says text_words words_of
@@ -99,25 +87,21 @@ module _ (ws line end : List ℕ) (from to : ℕ) where
   abbrev words : List ℕ
   words = take (to - from) (drop from ws)
 
-  pub line-unread : length ws < to → end ≡ line → Said 0
+  pub line-outside : (to < from) ⊎ (length ws < to) → end ≡ line → Said 0
   unfolding line_in line_into
-  line-unread h e = rw (lt-leb to (length ws) h) (omega arith, (refl, e))
+  line-outside (inr h) e = rw (lt-leb to (length ws) h) (omega arith, (refl, e))
+  line-outside (inl h) e = go (leb to (length ws))
+    where
+      go : (b : Bool) → (0 ≤ length end) × ((0 ≡ length (if b then text_of words else [])) × (end ≡ (if b then text_of words else []) ++ drop (length (if b then text_of words else [])) line))
+      go true =
+          let z : to - from ≡ 0 = omega arith in
+          let n : text_of words ≡ [] = ap (λ (k : ℕ). text_of (take k (drop from ws))) z ∙ text-none in
+          rw n (omega arith, (refl, e))
+      go false = (omega arith, (refl, e))
 
-  module _ (h : to ≤ length ws) where
-    pub line-short : to < from → end ≡ line → Said 0
-    unfolding line_in line_into
-    line-short l e =
-        let z : to - from ≡ 0 = omega arith in
-        let n : text_of (take (to - from) (drop from ws)) ≡ [] = ap (λ (k : ℕ). text_of (take k (drop from ws))) z ∙ text-none in
-        rw (le-leb to (length ws) h, n) (omega arith, (refl, e))
-
-    pub line_read : (n : ℕ) → end ≡ expand_into words line → expanding words ≡ Columns n → Said n
-    unfolding line_in line_into
-    line_read n x e = rw (le-leb to (length ws) h) (line-columns words line end n x e)
-
-    pub line-no-text : end ≡ expand_into words line → expanding words ≡ NoText → Said 0
-    unfolding line_in line_into
-    line-no-text x e = rw (le-leb to (length ws) h) (line-none words line end 0 x e)
+  pub line_read : to ≤ length ws → end ≡ expand_into words line → Said (unwrap_or (expanding words) 0)
+  unfolding line_in line_into
+  line_read h x = rw (le-leb to (length ws) h) (lined words line end x)
 
   pub line_taken : (n : ℕ) → n ≡ length (line_in ws from to) → end ≡ line_into ws from to line → take n end ≡ line_in ws from to
   unfolding line_into

@@ -1,28 +1,54 @@
 -- A row's fault is the answer, or what comes after the row. Assumes nothing.
---   found_some, found_none   an answer read back
+--   found_none, found_some   an answer read back
+--   position-found, large_found   a search for a place is that of the definitions
 --   refused-at, refused-on   a row's fault, and what comes after a row without one
-use Prim.Native.Nat.{ℕ}
-use native.Mathlib.Omega.{arith}
-use mathlib.Core.Path.{◌≡◌, refl, ap}
+use Prim.Native.Nat.{ℕ, suc, ◌+◌}
+use native.Mathlib.Numerals.{add-one}
+use mathlib.Core.Path.{◌≡◌, refl, sym, ap, ◌∙◌}
+use mathlib.Core.Bool.{Bool, true, false}
+use mathlib.Core.List.{List, [], ◌∷◌}
 use mathlib.Core.Option.{Option, none, some}
+use Rattle.std.specs.Prelude.{None, Some, Result, Ok, Err, cond, if◌then◌else◌}
+use Rattle.std.specs.List.{position_from}
+use Rattle.words.specs.Base.{place_from}
 use Rattle.library.specs.declared.Fault.{Fault}
-use Rattle.library.specs.declared.Checked.{Checked}
-use Rattle.library.specs.declared.Checked.TheVariants.{Refused}
-use Rattle.library.specs.declared.Found.TheVariants.{At, Nothing}
-use Rattle.library_tables.specs.Found.{found, refused_by}
+use Rattle.library.specs.declared.Refusal.{Refusal}
+use Rattle.library.specs.Refused.{refused_at}
+use Rattle.library_tables.specs.Found.{found, refused_by, not_word, large}
+use borrow.Author.Tests.{le-ltb, lt-ltb, le-leb, lt-leb}
+use native.Mathlib.Omega.{arith}
 
-pub found_some : (o : Option ℕ) (k : ℕ) → found o ≡ At k → o ≡ some k
+pub found_some : (o : Option ℕ) (k : ℕ) → found o ≡ Some k → o ≡ some k
 found_some (some j) k e = let z : j ≡ k = cc in ap some z
-found_some none k e = absurd (let z : ◌≡◌ {A = ℕ} 0 1 = cc in omega arith)
+found_some none k e = absurd cc
 
-pub found_none : (o : Option ℕ) → found o ≡ Nothing → o ≡ none
-found_none (some j) e = absurd (let z : ◌≡◌ {A = ℕ} 0 1 = cc in omega arith)
+pub found_none : (o : Option ℕ) → found o ≡ None → o ≡ none
+found_none (some j) e = absurd cc
 found_none none e = refl
 
-pub refused-at : (f : Fault) (o : Option ℕ) (r : Checked) (p : ℕ) → found o ≡ At p → Refused f p ≡ refused_by f o r
-refused-at f none r p e = absurd (let z : ◌≡◌ {A = ℕ} 0 1 = cc in omega arith)
-refused-at f (some q) r p e = let s : p ≡ q = cc in ap (Refused f) s
+pub position-found : (p q : ℕ → Bool) → ((w : ℕ) → p w ≡ q w) → (n : ℕ) (ws : List ℕ) → position_from p n ws ≡ found (place_from q n ws)
+position-found p q same n [] = refl
+position-found p q same n (w ∷ ws) = ap (λ (b : Bool). cond b (Some n) (position_from p (n + 1) ws)) (same w) ∙ go (q w) (ap (λ (k : ℕ). position_from p k ws) (add-one n) ∙ position-found p q same (suc n) ws)
+  where
+    go : (b : Bool) → position_from p (n + 1) ws ≡ found (place_from q (suc n) ws)
+        → cond b (Some n) (position_from p (n + 1) ws) ≡ found (if b then some n else place_from q (suc n) ws)
+    go true e = refl
+    go false e = e
 
-pub refused-on : (f : Fault) (o : Option ℕ) (r : Checked) → found o ≡ Nothing → r ≡ refused_by f o r
-refused-on f none r e = refl
-refused-on f (some q) r e = absurd (let z : ◌≡◌ {A = ℕ} 0 1 = cc in omega arith)
+large-word : (w : ℕ) → large w ≡ not_word w
+large-word w = grind (arith, le-ltb, lt-ltb, le-leb, lt-leb)
+
+pub large_found : (ws : List ℕ) → position_from large 0 ws ≡ found (place_from not_word 0 ws)
+large_found ws = position-found large not_word large-word 0 ws
+
+pub refused-at : (f : Fault) (o : Option ℕ) (r : Result (Unit {0}) Refusal) (e : Refusal) → refused_at f (found o) ≡ Err e → Err e ≡ refused_by f o r
+refused-at f none r e q = absurd cc
+refused-at f (some p) r e q = sym q
+
+pub refused-on : (f : Fault) (o : Option ℕ) → refused_at f (found o) ≡ Ok tt → o ≡ none
+refused-on f none q = refl
+refused-on f (some p) q = absurd cc
+
+pub refused-last : (f : Fault) (o : Option ℕ) → refused_at f (found o) ≡ refused_by f o (Ok tt)
+refused-last f none = refl
+refused-last f (some p) = refl

@@ -4,7 +4,7 @@
 --   entry-..                         a word of the directory, one law for each way out
 --   deck-..                          a word of the deck list, likewise
 --   row4-entry, row4-deck            row 4 of the parts that are lent
-use Rattle.std.specs.Prelude.{if◌then◌else◌}
+use Rattle.std.specs.Prelude.{None, Some, if◌then◌else◌}
 use Prim.Native.Nat.{ℕ, zero, suc, ◌+◌, ◌-◌, ◌≤◌, ◌<◌}
 use native.Mathlib.Omega.{arith}
 use native.Mathlib.Nat.{add-suc, add-zero}
@@ -24,7 +24,6 @@ use Rattle.words.specs.Names.{is_name, name_of, name_word, is_name_word}
 use Rattle.words.specs.Spelt.{name_length}
 use Rattle.library.specs.Library.{reserved, purged}
 use Rattle.library.specs.Check.{first_of, first_bad, ok_entry, ok_deck_word, directory_count, deck_count, directory_of, deck_words_of, row4}
-use Rattle.library.specs.declared.Found.TheVariants.{At, Nothing}
 use Rattle.library_tables.specs.Found.{found}
 
 module _ (ok : List ℕ → ℕ → Bool) (n : ℕ) (ws : List ℕ) where
@@ -114,11 +113,11 @@ module _ (directory ahead : List ℕ) (w : ℕ) where
 
 -- the directory's words, then those of the deck list
 module _ (ws : List ℕ) where
-  first_found : (a b : Option ℕ) (p : ℕ) → found a ≡ At p → found (first_of a b) ≡ At p
+  first_found : (a b : Option ℕ) (p : ℕ) → found a ≡ Some p → found (first_of a b) ≡ Some p
   first_found (some q) b p e = e
   first_found none b p e = absurd (let z : ◌≡◌ {A = ℕ} 0 1 = cc in omega arith)
 
-  then_found : (a b : Option ℕ) → found a ≡ Nothing → found (first_of a b) ≡ found b
+  then_found : (a b : Option ℕ) → found a ≡ None → found (first_of a b) ≡ found b
   then_found (some q) b e = absurd (let z : ◌≡◌ {A = ℕ} 0 1 = cc in omega arith)
   then_found none b e = refl
 
@@ -126,10 +125,10 @@ module _ (ws : List ℕ) where
     pub entries-are : take (2 + n - 2) (drop 2 ws) ≡ directory_of ws
     entries-are = let z : 2 + n - 2 ≡ directory_count ws = omega arith in ap (λ (k : ℕ). take k (drop 2 ws)) z
 
-    pub row4-entry : (p : ℕ) → found (first_bad ok_entry [] 2 (take (2 + n - 2) (drop 2 ws))) ≡ At p → found (row4 ws) ≡ At p
+    pub row4-entry : (p : ℕ) → found (first_bad ok_entry [] 2 (take (2 + n - 2) (drop 2 ws))) ≡ Some p → found (row4 ws) ≡ Some p
     row4-entry p e = first_found (first_bad ok_entry [] 2 (directory_of ws)) (first_bad (ok_deck_word (directory_of ws)) [] (2 + directory_count ws) (deck_words_of ws)) p (ap (λ (l : List ℕ). found (first_bad ok_entry [] 2 l)) (sym entries-are) ∙ e)
 
-    pub row4-deck : (d : ℕ) → d ≡ deck_count ws → found (first_bad ok_entry [] 2 (take (2 + n - 2) (drop 2 ws))) ≡ Nothing
+    pub row4-deck : (d : ℕ) → d ≡ deck_count ws → found (first_bad ok_entry [] 2 (take (2 + n - 2) (drop 2 ws))) ≡ None
         → found (row4 ws) ≡ found (first_bad (ok_deck_word (take (2 + n - 2) (drop 2 ws))) [] (2 + n) (take (2 + n + d - (2 + n)) (drop (2 + n) ws)))
     row4-deck d these e =
         then_found (first_bad ok_entry [] 2 (directory_of ws)) (first_bad (ok_deck_word (directory_of ws)) [] (2 + directory_count ws) (deck_words_of ws)) (ap (λ (l : List ℕ). found (first_bad ok_entry [] 2 l)) (sym entries-are) ∙ e)

@@ -1,6 +1,6 @@
 -- CODE. What rows 1 to 4 of the check answer, and what each part may rely on.
 --   answers              found, refused_by
---   for rows 1 and 3     not_word, count_faults
+--   for rows 1 and 3     not_word, large, count_faults
 --   rows that passed     Sized, Tabled
 --   rows 1 to 4          after_header, table_rows
 use Rattle.std.specs.Prelude.{Option as Place, None, Some, Result, Ok, Err, ℕ, ◌/◌, ◌%◌, ◌^◌, ◌≤◌, ◌<◌, Bool, not, List, [], ◌∷◌, eqb, ltb, leb, length, get_or}
@@ -23,6 +23,10 @@ refused_by f (some p) r = Err (record { fault = f; place = p })
 -- row 1's test of a word
 abbrev pub not_word : ℕ → Bool
 not_word w = not (is_word w)
+
+-- as the code makes it
+abbrev pub large : ℕ → Bool
+large w = leb (2 ^ 60) w
 
 -- row 3's tests of the second word alone
 abbrev pub count_faults : ℕ → List Bool

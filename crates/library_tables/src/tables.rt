@@ -1,10 +1,11 @@
 // Rows 1 to 4: the words' size, the header, the counts and the names.
 ghost use Rattle.std.specs.Prelude.{◌≡◌, [], ◌+◌, ◌/◌, ◌%◌, ◌^◌, ◌≤◌, ◌<◌, length, get_or};
-ghost use Rattle.words.specs.Base.{any_of, place_from};
+ghost use Rattle.std.specs.List.{position_from};
+ghost use Rattle.words.specs.Base.{any_of};
 ghost use Rattle.words_lists.specs.Ahead.{ahead_of};
 ghost use Rattle.words.specs.Names.{is_name_word};
 ghost use Rattle.library.specs.Check.{directory_count, deck_count, first_bad, ok_entry, ok_deck_word, row1, row2, row3, row4};
-ghost use Rattle.library_tables.specs.Found.{found, not_word, count_faults, Sized, Tabled};
+ghost use Rattle.library_tables.specs.Found.{found, large, count_faults, Sized, Tabled};
 
 use library::{COUNTS, DIRECTORY, FIELD, MOST_DECKS, MOST_ENTRIES, MOST_WORDS, PURGED, UPPER};
 
@@ -14,11 +15,12 @@ const LEAST_WORDS: usize = 3;
 const TOO_LARGE: u64 = 0o100000000000000000000;
 
 fn large_word(image: &[u64]) -> Option<usize>
-    ensures { result ≡ found (place_from not_word 0 image.now) }
+    ensures { result ≡ position_from large 0 image.now }
 {
     image.iter().position(|w| TOO_LARGE <= *w)
 }
 
+#[tactic(auto, using(crate::proofs::FirstFault::large_found))]
 pub(crate) fn size_fault(image: &[u64]) -> Option<usize>
     ensures { result ≡ found (row1 image.now) }
 {
@@ -167,8 +169,6 @@ pub(crate) fn name_fault(image: &[u64]) -> Option<usize>
     let first = DIRECTORY + entries_of(image);
     let cards = first + decks_of(image);
     let directory = &image[DIRECTORY..first];
-    match entries_fault(directory) {
-        Some(p) => Some(p),
-        None => deck_words_fault(directory, &image[first..cards], first),
-    }
+    entries_fault(directory)
+        .or_else(|| deck_words_fault(directory, &image[first..cards], first))
 }
