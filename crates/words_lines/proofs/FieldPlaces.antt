@@ -1,6 +1,5 @@
 -- The parts of a directive's line, by their places. Assumes nothing.
---   a byte at a place           stands, stands-not
---   where parameters start      after-empty, after-end, after-comma, after-blanks
+--   where parameters start      after-end, after-comma, after-blanks
 --   what follows them           clean-to
 use Rattle.std.specs.Prelude.{if◌then◌else◌}
 use mathlib.Core.Path.{◌≡◌, refl, sym, ap, ◌∙◌}
@@ -15,23 +14,8 @@ use lib.ListN.{length, drop, get_or, length-drop, drop_of_length-le}
 use lib.Seq.{drop-cons}
 use Rattle.words.specs.Base.{all, take_until, drop_until}
 use Rattle.words.specs.Display.{blank, comma}
-use Rattle.words_lines.specs.Directive.{starts, ends_name, after_name}
+use Rattle.words_lines.specs.Directive.{ends_name, after_name}
 use Rattle.words_lines.proofs.CutAtFirst.{part-from}
-
-module _ (l : List ℕ) (at b : ℕ) where
-  pub stands : at < length l → eqb b (get_or l at 0) ≡ starts b (drop at l)
-  stands h = rw (drop-cons l at 0 h)
-
-  pub stands-not : length l ≤ at → false ≡ starts b (drop at l)
-  stands-not h = rw (drop_of_length-le l h)
-
-module _ (l : List ℕ) (none : length l ≡ 0) where
-  pub after-empty : l ≡ after_name l
-  after-empty = by-list l none
-    where
-      by-list : (l : List ℕ) → length l ≡ 0 → l ≡ after_name l
-      by-list [] e = refl
-      by-list (x ∷ xs) e = absurd (omega arith)
 
 abbrev not_blank : ℕ → Bool
 not_blank b = not (eqb b blank)

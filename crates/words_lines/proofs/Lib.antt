@@ -1,4 +1,4 @@
--- What a CALL says, test by test.
+-- What a line without a star in column 1 says of a CALL.
 pub mod CallLine
 -- A list cut at the first element that passes a test, found place by place.
 pub mod CutAtFirst
@@ -10,8 +10,6 @@ pub mod SplitList
 pub mod NamesByWord
 -- The lines of a stream, one after another: what a loop over them cites.
 pub mod StreamLines
--- A name looked up in the table of directives, row by row.
-pub mod DirectiveRow
 -- The names of a field walked one after another: what a loop over a YANK's names cites.
 pub mod FieldNames
 -- What is known of a line from what it asks: its directive's kind, and that a unit's name is a name.

@@ -1,6 +1,6 @@
 -- A list split at the elements that pass a test, and a question put to each part. Assumes nothing.
 --   the parts from a place on     parts_from, parts_none, parts_more, part-fits
---   one of them, all of them      any_none, any_here, any_next, all_none, all-next, all-not
+--   all of them                   all_none, all-next, all-not
 --   in the library's words        split-slice, any-list, all-list, same-bytes
 use Rattle.std.specs.Prelude.{cond, if◌then◌else◌}
 use Rattle.std.specs.List.{list_any, list_all, slice_split, onto_first}
@@ -55,12 +55,6 @@ module _ (p : ℕ → Bool) where
         rw (here, parts-drop at (length part + 1) s inside, is) (split-first (drop at s))
 
     module _ (q : List ℕ → Bool) where
-      pub any_here : q part ≡ true → any q (parts_from p at s) ≡ true
-      any_here holds = rw (parts_more, holds)
-
-      pub any_next : q part ≡ false → any q (parts_from p at s) ≡ any q (parts_from p (at + (length part + 1)) s)
-      any_next fails = rw (parts_more, fails)
-
       pub all-next : q part ≡ true → all q (parts_from p at s) ≡ all q (parts_from p (at + (length part + 1)) s)
       all-next holds = rw (parts_more, holds)
 
@@ -68,9 +62,6 @@ module _ (p : ℕ → Bool) where
       all-not fails = rw (parts_more, fails)
 
   module _ (at : ℕ) (s : List ℕ) (past : length s < at) (q : List ℕ → Bool) where
-    pub any_none : any q (parts_from p at s) ≡ false
-    any_none = rw (parts_none at s past)
-
     pub all_none : all q (parts_from p at s) ≡ true
     all_none = rw (parts_none at s past)
 

@@ -7,6 +7,7 @@ use crate::parts::{STAR, field_of, is_clean, name_of, stands_at};
 use crate::scan::listed;
 
 // Whether a card calls a common deck, and which.
+#[tactic(auto, unfolding(crate::specs::Directive::call_of))]
 pub fn call_of(line: &[u8]) -> Call
     ensures { result ≡ call_of line.now }
 {

@@ -37,12 +37,14 @@ fn kind_in(name: &[u8], table: &[(&[u8], Kind)]) -> Kind
     Kind::Text
 }
 
+#[tactic(auto, unfolding(crate::specs::Directive::kind_of))]
 fn kind_of(name: &[u8]) -> Kind
     ensures { result ≡ kind_of name.now }
 {
     kind_in(name, &TABLE)
 }
 
+#[tactic(auto, unfolding(crate::specs::Directive::kind_of_line))]
 pub fn kind_of_line(line: &[u8]) -> Kind
     ensures { result ≡ kind_of_line line.now }
 {

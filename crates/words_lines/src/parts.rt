@@ -17,6 +17,7 @@ pub(crate) fn stands_at(line: &[u8], at: usize, b: u8) -> bool
 }
 
 // What stands between column 1 and the name's end.
+#[tactic(auto, unfolding(crate::specs::Directive::name_of_line))]
 pub(crate) fn name_of(line: &[u8]) -> &[u8]
     ensures { result.now ≡ name_of_line line.now }
 {
@@ -42,6 +43,7 @@ fn field_start(line: &[u8]) -> usize
 }
 
 // The parameters as they stand in the line.
+#[tactic(auto, unfolding(crate::specs::Directive::field))]
 pub fn field_of(line: &[u8]) -> &[u8]
     ensures { result.now ≡ field line.now }
 {

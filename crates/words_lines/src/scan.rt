@@ -34,7 +34,10 @@ pub(crate) fn place_of(s: &[u8], at: usize, stop: Stop) -> usize
     ensures within { result ≤ length s.now }
 {
     let rest = &s[at..];
-    at + rest.iter().position(|b| stops(stop, *b)).unwrap_or(rest.len())
+    at + rest
+        .iter()
+        .position(|b| stops(stop, *b))
+        .unwrap_or(rest.len())
 }
 
 // What stands from `at` up to where the search stops; past the end nothing.

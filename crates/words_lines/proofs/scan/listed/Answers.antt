@@ -1,5 +1,5 @@
 -- The names are the parts between blanks, and the name is listed where it is one of them.
-use Rattle.std.proofs.Common.{rules, tests, eqb, ◌≡◌, ◌∙◌}
+use Rattle.std.proofs.Common.{rules, tests, eqb, ◌∙◌}
 use Rattle.std.proofs.lemmas.Iterator.Search.{any_from_yields_List}
 use Rattle.std.proofs.lemmas.Iterator.Splits.{YieldsList-from_slice_split}
 use Rattle.std.specs.Cmp.Lexicographic.{pointwise}
