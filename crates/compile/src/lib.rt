@@ -62,11 +62,7 @@ fn compile_chosen(
 }
 
 // All decks of a table.
-fn compile_table(
-    image: &[u64],
-    table: &[u64],
-    out: &mut [u8],
-) -> Result<Counts, CompileRefused>
+fn compile_table(image: &[u64], table: &[u64], out: &mut [u8]) -> Result<Counts, CompileRefused>
     ensures { Compiles (table_view image.now table.now) (table_view image.now table.now) result out.old out.new }
 {
     compile_chosen(image, table, table, out)

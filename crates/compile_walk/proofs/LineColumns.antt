@@ -1,39 +1,25 @@
 -- The columns of a line of the compile file, one after another: its text, its owner's name, its number. Assumes nothing.
---   least-short, Begun, left-..   a text left justified, column by column
+--   left-filled, left_put          a text left justified: copied, then blanks
 --   name-columns, number-columns, line-whole   the parts of a line put together
 use Rattle.std.specs.Prelude.{if◌then◌else◌}
 use Prim.Native.Nat.{ℕ, zero, suc, ◌+◌, ◌-◌, ◌*◌, ◌/◌, ◌%◌, ◌^◌, ◌≤◌, ◌<◌}
 use native.Mathlib.Omega.{arith}
-use native.Mathlib.Numerals.{add-one}
 use native.Mathlib.Nat.{pow-suc}
-use mathlib.Core.Path.{◌≡◌, refl, sym, ap, ◌∙◌, subst}
+use mathlib.Core.Path.{◌≡◌, refl, sym, ap, ap₂, ◌∙◌, subst}
 use mathlib.Core.Bool.{Bool, true, false, ◌&&◌, not}
-use mathlib.Core.List.{List, [], ◌∷◌, ◌++◌, append_assoc}
-use borrow.Author.Tests.{lt-ltb, le-leb}
+use mathlib.Core.List.{List, [], ◌∷◌, ◌++◌, append_assoc, append-nil}
+use borrow.Author.Tests.{lt-ltb, le-leb, leb-true, leb-false}
 use borrow.Rule.Slice.PartMut.{put_mid, post_of, mid_of, same_len_mid, mid_len}
 use lib.Dec.{T, eqb, ltb, leb, leb→le}
-use lib.ListN.{length, get_or, take, drop, set, replicate, length-append, length-drop, length-set, length-take, length-replicate, get_or-replicate, drop_of_length-le, get_or-eq_default}
-use lib.Seq.{take_all, take-suc, take-suc-set, drop-cons, get_or-take, get_or-drop, ext_get_or, get_or-set_same, get_or-set_other, take_at, drop_at, drop-drop}
+use lib.ListN.{length, get_or, take, drop, set, replicate, length-append, length-drop, length-set, length-take, length-replicate, get_or-replicate, drop_of_length-le}
+use Rattle.std.proofs.lemmas.List.{take-append-le, take-replicate}
+use lib.Seq.{length-take-le, take-append-add, take_all, drop-cons, get_or-take, get_or-drop, ext_get_or, get_or-set_same, get_or-set_other, take_at, drop_at, drop-drop}
 use Rattle.words.specs.Base.{all, is_nil}
 use Rattle.words.proofs.TestParts.{and_left, and_right, true-T}
 use Rattle.words.specs.Display.{blank}
 use Rattle.words.specs.Names.{is_name_byte, is_name, name_word, name_of, is_name_word, digits, numeral, left_justified, right_justified}
 use Rattle.words.specs.Spelt.{name_into, number_into}
 use Rattle.compile_walk.specs.Lines.{owner_name, line_for}
-
--- the least of two, where it is less than the second
-pub least-short : (a b : ℕ) {r : ℕ} → r ≡ (if leb a b then a else b) → r < b → r ≡ a
-least-short a b {r = r} e h = go (leb a b) e
-  where
-    go : (x : Bool) → r ≡ (if x then a else b) → r ≡ a
-    go true e = e
-    go false e = absurd (omega arith)
-
--- a column inside the text, whatever stands for one past it
-column-inside : (t : List ℕ) (i : ℕ) → i < length t → get_or t i 0 ≡ get_or t i blank
-column-inside [] i h = absurd (omega arith)
-column-inside (x ∷ t) zero h = refl
-column-inside (x ∷ t) (suc i) h = column-inside t i (omega arith)
 
 -- LEFT JUSTIFIED
 pub left-length : (n : ℕ) (t : List ℕ) → length (left_justified n t) ≡ n
@@ -49,35 +35,35 @@ left-column : (n : ℕ) (t : List ℕ) (i : ℕ) → i < n → get_or (left_just
 unfolding left_justified
 left-column n t i h = get_or-take n (t ++ replicate n blank) i 0 h ∙ column-of t n i h
 
--- a field of n columns whose first i are those of the justified text
-abbrev pub Begun : ℕ → List ℕ → List ℕ → ℕ → Type 0
-Begun n t f i = (length f ≡ n) × (take i f ≡ take i (left_justified n t))
+-- as much of the text as there is room for, then blanks
+pub left-filled : (t : List ℕ) (n k : ℕ) → k ≡ (if leb (length t) n then length t else n) → take k t ++ replicate (n - k) blank ≡ left_justified n t
+unfolding left_justified
+left-filled t n k e = go (leb (length t) n) refl e
+  where
+    go : (x : Bool) → leb (length t) n ≡ x → k ≡ (if x then length t else n) → take k t ++ replicate (n - k) blank ≡ take n (t ++ replicate n blank)
+    go true h q =
+        let le : length t ≤ n = leb-true (length t) n h in
+        let m : length t + (n - k) ≡ n = omega arith in
+        ap₂ {C = List ℕ} ◌++◌ (take_all k t (omega arith)) (sym (take-replicate (n - k) n blank (omega arith)))
+        ∙ sym (take-append-add t (replicate n blank) (n - k)) ∙ ap (λ (i : ℕ). take i (t ++ replicate n blank)) m
+    go false h q =
+        let lt : n < length t = leb-false (length t) n h in
+        let z : n - k ≡ 0 = omega arith in
+        ap₂ (λ (i j : ℕ). take i t ++ replicate j blank) q z ∙ append-nil (take n t) ∙ sym (take-append-le n t (replicate n blank) (omega arith))
 
-module _ (n : ℕ) (t f : List ℕ) (i : ℕ) (b : Begun n t f i) where
-  abbrev J : List ℕ
-  J = left_justified n t
-
-  -- one column more
-  module _ (h : i < n) where
-    left-more : Begun n t (set f i (get_or t i blank)) (i + 1)
-    left-more =
-        let v : ℕ = get_or t i blank in
-        let inside : i < length J = omega (arith, left-length n t) in
-        let more : take (suc i) (set f i v) ≡ take (suc i) J = take-suc-set f i v (omega arith) ∙ (λ k. b.1 k ++ (sym (left-column n t i h) k ∷ [])) ∙ sym (take-suc J i 0 inside) in
-        (length-set f i v ∙ b.0, rw (add-one i) more)
-
-    pub left-copied : i < length t → Begun n t (set f i (get_or t i 0)) (i + 1)
-    left-copied k = subst (λ (v : ℕ). Begun n t (set f i v) (i + 1)) (sym (column-inside t i k)) left-more
-
-    pub left-blank : length t ≤ i → Begun n t (set f i blank) (i + 1)
-    left-blank k = subst (λ (v : ℕ). Begun n t (set f i v) (i + 1)) (get_or-eq_default t blank k) left-more
-
-  -- the same of the field's own length
-  pub left-own : Begun (length f) t f i
-  left-own = (refl, b.1 ∙ ap (λ (m : ℕ). take i (left_justified m t)) (sym b.0))
-
-  pub left-all : n ≤ i → f ≡ left_justified n t
-  left-all h = sym (take_all i f (omega arith)) ∙ b.1 ∙ take_all i J (omega (arith, left-length n t))
+-- p is what is copied into the field f, b the blanks behind it
+pub left_put : (t f p b : List ℕ) (k : ℕ) → k ≡ (if leb (length t) (length f) then length t else length f) → k ≤ length t → k ≤ length f → p ≡ take k t
+    → b ≡ replicate (length (take (length (p ++ drop k f) - k) (drop k (p ++ drop k f)))) blank
+    → take k (p ++ drop k f) ++ (b ++ post_of k (length (p ++ drop k f) - k) (p ++ drop k f)) ≡ left_justified (length f) t
+left_put t f p b k least in-text in-field copied blanks =
+    let s : List ℕ = p ++ drop k f in
+    let lp : length p ≡ k = ap length copied ∙ length-take-le k t in-text in
+    let ls : length s ≡ length f = omega (arith, length-append p (drop k f), length-drop k f, lp) in
+    let m : length (take (length s - k) (drop k s)) ≡ length f - k = length-take-le (length s - k) (drop k s) (omega (arith, length-drop k s)) ∙ omega (arith, ls) in
+    let front : take k s ≡ take k t = take_at p (drop k f) k lp ∙ copied in
+    let none : post_of k (length s - k) s ≡ [] = drop_of_length-le (drop k s) {i = length s - k} (omega (arith, length-drop k s)) in
+    let filled : b ≡ replicate (length f - k) blank = blanks ∙ ap (λ (i : ℕ). replicate i blank) m in
+    (λ i. front i ++ (filled i ++ none i)) ∙ ap (λ (r : List ℕ). take k t ++ r) (append-nil (replicate (length f - k) blank)) ∙ left-filled t (length f) k least
 
 -- a text is justified by its columns
 left-same : (n : ℕ) (s t : List ℕ) → ((i : ℕ) → get_or s i blank ≡ get_or t i blank) → left_justified n s ≡ left_justified n t

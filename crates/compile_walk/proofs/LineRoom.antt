@@ -15,20 +15,19 @@ use Rattle.compile_walk.specs.View.{Shown}
 use Rattle.compile_walk.specs.TableView.{shown_named, shown_of}
 use Rattle.compile_walk.specs.Lines.{line_for}
 use Rattle.compile_walk.specs.declared.Stop.TheVariants.{Space}
-use Rattle.compile_walk.specs.declared.Walked.TheVariants.{On}
-use Rattle.compile_walk.specs.Steps.{WalkState, walk_state, halted_at, put_of}
+use Rattle.compile_walk.specs.Steps.{WalkState, on_with, halted_at, put_of}
 
 module _ (w : Bool) (c : Shown) (l n : ℕ) (o : List ℕ) where
   pub put_full : length o / 91 ≤ l → halted_at Space c o ≡ put_of w c l n o
   unfolding put_of
   put_full h = rw (le-ltb l (length o / 91) h)
 
-  pub put-counted : l < length o / 91 → w ≡ false → walk_state (On (l + 1) n) o ≡ put_of w c l n o
+  pub put-counted : l < length o / 91 → w ≡ false → on_with (l + 1) n o ≡ put_of w c l n o
   unfolding put_of
   put-counted h e = rw (lt-ltb l (length o / 91) h, e)
 
   pub put_written : (p : List ℕ) → l < length o / 91 → w ≡ true → p ≡ line_for c.line c.name c.seq
-      → walk_state (On (l + 1) n) (put_mid (l * 91) (l * 91 + 91 - l * 91) o p) ≡ put_of w c l n o
+      → on_with (l + 1) n (put_mid (l * 91) (l * 91 + 91 - l * 91) o p) ≡ put_of w c l n o
   unfolding put_of
   put_written p h e line = rw (lt-ltb l (length o / 91) h, e, line, Post-is (l * 91) (l * 91 + 91) o (omega arith))
 

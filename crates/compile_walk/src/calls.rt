@@ -27,7 +27,10 @@ fn find_row(table: &[u64], w: u64) -> Result<Cards, Stop>
     while let [name, from, to, kind, more @ ..] = rows {
         if *name == w {
             if *kind == COMMON {
-                return Ok(Cards { from: *from as usize, to: *to as usize });
+                return Ok(Cards {
+                    from: *from as usize,
+                    to: *to as usize,
+                });
             }
             return Err(Stop::NotCommon);
         }

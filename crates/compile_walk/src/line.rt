@@ -25,15 +25,8 @@ fn put_left(text: &[u8], field: &mut [u8])
     ensures { field.new ≡ left_justified (length field.old) text.now }
 {
     let n = library_image::least(text.len(), field.len());
-    let mut i = 0;
-    while i < n {
-        field[i] = text[i];
-        i += 1;
-    }
-    while i < field.len() {
-        field[i] = BLANK;
-        i += 1;
-    }
+    field[..n].copy_from_slice(&text[..n]);
+    field[n..].fill(BLANK);
 }
 
 // The line of a card of this text, its owner's name word and its number.

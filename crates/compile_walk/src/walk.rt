@@ -47,7 +47,10 @@ impl Pass<'_> {
             let name = word_at(self.image, c.owner as usize + 1);
             put_line(line, name, c.seq, &mut out[at..at + LINE]);
         }
-        Ok(Counts { lines: lines + 1, calls: so_far.calls })
+        Ok(Counts {
+            lines: lines + 1,
+            calls: so_far.calls,
+        })
     }
 
     // A card whose line does not begin with *, and so is no CALL: where the pass only counts, the line need not be known.
@@ -82,14 +85,28 @@ impl Pass<'_> {
             Ok(None) => self.put(&line[..n], c, out, so_far),
             Ok(Some(cards)) => {
                 let calls = so_far.calls + 1;
-                self.walk(cards, depth - 1, out, Counts { lines: so_far.lines, calls: calls })
+                self.walk(
+                    cards,
+                    depth - 1,
+                    out,
+                    Counts {
+                        lines: so_far.lines,
+                        calls: calls,
+                    },
+                )
             }
         }
     }
 
     // The cards from a place up to another.
     #[cycle(walk)]
-    fn walk(&self, cards: Cards, depth: usize, out: &mut [u8], so_far: Counts) -> Result<Counts, Halt>
+    fn walk(
+        &self,
+        cards: Cards,
+        depth: usize,
+        out: &mut [u8],
+        so_far: Counts,
+    ) -> Result<Counts, Halt>
         ensures { walk_state result out.new ≡ run_at self.now.writes (table_view self.now.image.now self.now.table.now) depth (shown_in self.now.image.now cards.from cards.to) so_far.lines so_far.calls out.old }
     {
         let mut at = cards.from;
@@ -113,7 +130,10 @@ impl Pass<'_> {
         let mut rows = chosen;
         while let [_, from, to, kind, more @ ..] = rows {
             if *kind != COMMON {
-                let cards = Cards { from: *from as usize, to: *to as usize };
+                let cards = Cards {
+                    from: *from as usize,
+                    to: *to as usize,
+                };
                 counts = self.walk(cards, DEPTH, out, counts)?;
             }
             rows = more;

@@ -31,7 +31,13 @@ fn within_both(first: &[u64], a: Parts, second: &[u64], b: Parts) -> bool
 }
 
 // Where no name is common and no limit is passed.
-fn merge_apart(first: &[u64], a: Parts, second: &[u64], b: Parts, space: &mut [u64]) -> Result<usize, MergeRefused>
+fn merge_apart(
+    first: &[u64],
+    a: Parts,
+    second: &[u64],
+    b: Parts,
+    space: &mut [u64],
+) -> Result<usize, MergeRefused>
     requires { Laid first.now a × Laid second.now b }
     ensures { MergesApart first.now second.now space.old space.new result }
 {

@@ -1,7 +1,14 @@
 -- A CALL asks for the deck that the table has under its name.
-use Rattle.compile_walk.specs.Steps.{open_at, asked_of}
-use mathlib.Core.Path.{sym, ap, ◌∙◌}
+use Rattle.compile_walk.specs.Steps.{asked_of}
+use Rattle.std.proofs.lemmas.Result.{err_from_is_err_and}
+use mathlib.Core.Path.{sym, ◌∙◌}
 use Rattle.compile_walk.proofs.calls.asks.Goals as goal
+
+pub returns-in_err-find_row-in-Of : goal.returns-in_err-find_row-in-Of
+unfolding asked_of
+returns-in_err-find_row-in-Of c =
+    let p = err_from_is_err_and c.from_residual.result c.from_residual.ensures.1 in
+    rw (p.1, p.2, sym c.call_of.ensures ∙ c.in-Of.is, sym c.in_err-find_row-in-Of.ensures)
 
 pub returns-in-Not : goal.returns-in-Not
 unfolding asked_of
@@ -11,6 +18,6 @@ pub returns-in-Malformed : goal.returns-in-Malformed
 unfolding asked_of
 returns-in-Malformed c = rw (sym c.call_of.ensures ∙ c.in-Malformed.is)
 
-pub returns-in-Of : goal.returns-in-Of
+pub returns-in_ok-find_row-in-Of : goal.returns-in_ok-find_row-in-Of
 unfolding asked_of
-returns-in-Of c = let a = c.args in rw (sym c.call_of.ensures ∙ c.in-Of.is) (c.open_at.ensures ∙ ap (λ p. open_at p a.depth a.calls) c.find_row.ensures)
+returns-in_ok-find_row-in-Of c = rw (sym c.call_of.ensures ∙ c.in-Of.is, sym c.in_ok-find_row-in-Of.ensures) c.open_at.ensures
