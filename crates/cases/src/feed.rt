@@ -1,7 +1,8 @@
 // Standard input, read 64 KiB at a time.
-ghost use Rattle.std.specs.Prelude.{◌<◌, ◌≤◌, IfOk, IsFalse, OnErr};
+ghost use Rattle.std.specs.Prelude.{◌≡◌, ◌<◌, ◌≤◌, IfOk, OnErr, IsSome, IfSome};
 
-use crate::space::{front_bytes, front_words};
+use crate::op::Op;
+use crate::space::{front, whole_words};
 use cases_sums::Head;
 use std::io;
 use std::io::Read;
@@ -13,179 +14,147 @@ pub const WORDS: usize = 131074;
 
 pub const BYTES: usize = 262400;
 
-// What was read and is not yet taken stands from `at` to `end` in the input array. `over`: more was asked for than the input had.
-#[derive(Clone, Copy)]
-pub struct Feed {
+// What was read and is not yet taken stands from `at` to `end` in the input array.
+#[derive(Clone, Copy, PartialEq, Eq)]
+pub struct Rest {
     pub at: usize,
     pub end: usize,
-    pub over: bool,
 }
 
-pub fn start() -> Feed {
-    Feed {
-        at: 0,
-        end: 0,
-        over: false,
+// There is no rest once more was asked for than the input had.
+#[derive(Drop)]
+pub struct Feed<'a, R> {
+    pub reader: &'a mut R,
+    pub input: &'a mut [u8; INPUT],
+    pub rest: Option<Rest>,
+}
+
+impl<'a, R: Read> Feed<'a, R> {
+    pub fn start(reader: &'a mut R, input: &'a mut [u8; INPUT]) -> Feed<'a, R> {
+        Feed {
+            reader,
+            input,
+            rest: Some(Rest { at: 0, end: 0 }),
+        }
     }
-}
 
-// What a read gives. The one error is that of the read; the array's bytes may then be any.
-fn more<R: Read>(reader: &mut R, input: &mut [u8; INPUT]) -> io::Result<Feed>
-    ensures { IfOk result (λ f. f.end ≤ 65536) }
-{
-    let n = reader.read(input)?;
-    Ok(Feed {
-        at: 0,
-        end: n,
-        over: n == 0,
-    })
-}
+    // What a read gives. The one error is that of the read; the array's bytes may then be any.
+    fn more(&mut self) -> io::Result<Option<Rest>>
+        ensures { IfOk result (λ o. IfSome o (λ r. r.at < r.end × r.end ≤ 65536)) }
+    {
+        let input = &mut *self.input;
+        let n = self.reader.read(input)?;
+        Ok(if n == 0 {
+            None
+        } else {
+            Some(Rest { at: 0, end: n })
+        })
+    }
 
-// A feed that has a byte, after a read where there was none left; or one that is over. Only that read can fail.
-pub fn ready<R: Read>(reader: &mut R, input: &mut [u8; INPUT], feed: Feed) -> io::Result<Feed>
-    ensures within { IfOk result (λ f. f.end ≤ 65536) }
-    ensures not_over { OnErr result (IsFalse feed.over) }
-    ensures no_byte { OnErr result (feed.at < feed.end → 65536 < feed.end) }
-{
-    if feed.over {
-        return Ok(Feed {
-            at: 0,
-            end: 0,
-            over: true,
+    // A rest that has a byte, after a read where there was none left; or none. Only that read can fail.
+    pub fn ready(&mut self) -> io::Result<Option<Rest>>
+        ensures within { IfOk result (λ o. IfSome o (λ r. r.at < r.end × r.end ≤ 65536)) }
+        ensures kept { IfOk result (λ o. self.new.rest ≡ o) }
+        ensures not_over { OnErr result (IsSome self.old.rest) }
+        ensures no_byte { OnErr result (IfSome self.old.rest (λ r. r.at < r.end → 65536 < r.end)) }
+    {
+        let Some(rest) = self.rest else {
+            return Ok(None);
+        };
+        if rest.at < rest.end && rest.end <= INPUT {
+            return Ok(Some(rest));
+        }
+        let rest = self.more()?;
+        self.rest = rest;
+        Ok(rest)
+    }
+
+    // The next byte, or none where the input has ended.
+    fn next(&mut self) -> io::Result<Option<u8>> {
+        let Some(rest) = self.ready()? else {
+            return Ok(None);
+        };
+        self.rest = Some(Rest {
+            at: rest.at + 1,
+            end: rest.end,
         });
+        Ok(Some(self.input[rest.at]))
     }
-    if feed.at < feed.end {
-        if feed.end <= input.len() {
-            return Ok(feed);
+
+    // Fills `out` from the input.
+    pub fn take_bytes(&mut self, out: &mut [u8]) -> io::Result<()> {
+        for x in out.iter_mut() {
+            let Some(b) = self.next()? else {
+                return Ok(());
+            };
+            *x = b;
+        }
+        Ok(())
+    }
+
+    // Fills `out` from the input, eight bytes a word, the lowest first.
+    fn take_words(&mut self, out: &mut [u64]) -> io::Result<()> {
+        let mut eight = [0u8; 8];
+        for x in out.iter_mut() {
+            self.take_bytes(&mut eight)?;
+            *x = cases_sums::word_of(&eight);
+        }
+        Ok(())
+    }
+
+    // Passes over n bytes.
+    fn skip(&mut self, n: usize) -> io::Result<()> {
+        for _ in 0..n {
+            if self.next()?.is_none() {
+                return Ok(());
+            }
+        }
+        Ok(())
+    }
+
+    // n bytes into the front of `bytes`, or passed over where they do not fit.
+    fn load_bytes(&mut self, n: usize, bytes: &mut [u8]) -> io::Result<()> {
+        match bytes.get_mut(..n) {
+            Some(out) => self.take_bytes(out),
+            None => self.skip(n),
         }
     }
-    more(reader, input)
-}
 
-// Fills `out` from the input.
-pub fn take_bytes<R: Read>(
-    reader: &mut R,
-    input: &mut [u8; INPUT],
-    feed: Feed,
-    out: &mut [u8],
-) -> io::Result<Feed> {
-    let mut f = feed;
-    let mut i = 0;
-    while i < out.len() {
-        f = ready(reader, input, f)?;
-        let at = f.at;
-        if f.end <= at {
-            return Ok(f);
+    // n bytes as words into the front of `words`, or passed over where they do not fit or are no whole words.
+    fn load_words(&mut self, n: usize, words: &mut [u64]) -> io::Result<()> {
+        if let Some(count) = whole_words(n) {
+            if let Some(out) = words.get_mut(..count) {
+                return self.take_words(out);
+            }
         }
-        out[i] = input[at];
-        f.at = at + 1;
-        i += 1;
+        self.skip(n)
     }
-    Ok(f)
-}
 
-// Fills `out` from the input, eight bytes a word, the lowest first.
-fn take_words<R: Read>(
-    reader: &mut R,
-    input: &mut [u8; INPUT],
-    feed: Feed,
-    out: &mut [u64],
-) -> io::Result<Feed> {
-    let mut f = feed;
-    let mut i = 0;
-    let mut eight = [0u8; 8];
-    while i < out.len() {
-        f = take_bytes(reader, input, f, &mut eight)?;
-        out[i] = cases_sums::word_of(&eight);
-        i += 1;
+    // Two images, the second behind the first.
+    fn load_images(&mut self, head: Head, words: &mut [u64]) -> io::Result<()> {
+        let n = front(head.first / 8, words);
+        self.load_words(head.first, words)?;
+        self.load_words(head.second, &mut words[n..])
     }
-    Ok(f)
-}
 
-// Passes over n bytes.
-fn skip<R: Read>(
-    reader: &mut R,
-    input: &mut [u8; INPUT],
-    feed: Feed,
-    n: usize,
-) -> io::Result<Feed> {
-    let mut f = feed;
-    let mut i = 0;
-    while i < n {
-        f = ready(reader, input, f)?;
-        let at = f.at;
-        if f.end <= at {
-            return Ok(f);
-        }
-        f.at = at + 1;
-        i += 1;
-    }
-    Ok(f)
-}
-
-// n bytes into the front of `bytes`, or passed over where they do not fit.
-fn load_bytes<R: Read>(
-    reader: &mut R,
-    input: &mut [u8; INPUT],
-    feed: Feed,
-    n: usize,
-    bytes: &mut [u8],
-) -> io::Result<Feed> {
-    let k = front_bytes(n, bytes);
-    if k < n {
-        return skip(reader, input, feed, n);
-    }
-    take_bytes(reader, input, feed, &mut bytes[..k])
-}
-
-// n bytes as words into the front of `words`, or passed over where they do not fit or are no whole words.
-fn load_words<R: Read>(
-    reader: &mut R,
-    input: &mut [u8; INPUT],
-    feed: Feed,
-    n: usize,
-    words: &mut [u64],
-) -> io::Result<Feed> {
-    let k = front_words(n / 8, words);
-    if k * 8 < n {
-        return skip(reader, input, feed, n);
-    }
-    take_words(reader, input, feed, &mut words[..k])
-}
-
-// Two images, the second behind the first.
-fn load_images<R: Read>(
-    reader: &mut R,
-    input: &mut [u8; INPUT],
-    feed: Feed,
-    head: Head,
-    words: &mut [u64],
-) -> io::Result<Feed> {
-    let n = front_words(head.first / 8, words);
-    let second = load_words(reader, input, feed, head.first, words)?;
-    load_words(reader, input, second, head.second, &mut words[n..])
-}
-
-// A case's two blobs: the first as words where its op reads an image or a text (1, 2, 3, 7), as bytes for any other op; the second, a stream, as bytes; both as words
-// where its op reads two images (9).
-pub fn load<R: Read>(
-    reader: &mut R,
-    input: &mut [u8; INPUT],
-    feed: Feed,
-    head: Head,
-    words: &mut [u64; WORDS],
-    bytes: &mut [u8; BYTES],
-) -> io::Result<Feed> {
-    let op = head.op;
-    match op {
-        1 | 2 | 3 | 7 => {
-            let second = load_words(reader, input, feed, head.first, words)?;
-            load_bytes(reader, input, second, head.second, bytes)
-        }
-        9 => load_images(reader, input, feed, head, words),
-        _ => {
-            let second = load_bytes(reader, input, feed, head.first, bytes)?;
-            skip(reader, input, second, head.second)
+    // A case's two blobs: the first as words where its op reads an image or a text, as bytes for any other op; the second, a stream, as bytes; both as words where
+    // its op reads two images.
+    pub fn load(
+        &mut self,
+        head: Head,
+        words: &mut [u64; WORDS],
+        bytes: &mut [u8; BYTES],
+    ) -> io::Result<()> {
+        match Op::try_from(head.op) {
+            Ok(Op::Check | Op::Run | Op::Compile | Op::Expand) => {
+                self.load_words(head.first, words)?;
+                self.load_bytes(head.second, bytes)
+            }
+            Ok(Op::Merge) => self.load_images(head, words),
+            _ => {
+                self.load_bytes(head.first, bytes)?;
+                self.skip(head.second)
+            }
         }
     }
 }

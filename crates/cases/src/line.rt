@@ -1,107 +1,70 @@
 // Op 8: what a line asks, as the number of its kind and the words that it names (tests/CASES.md).
-use crate::answer::Answer;
-use crate::space::front_words;
+use crate::answer::Numbers;
 use cases_sums::sum_words;
 use words_lines::{Call, Line, NameStep};
 
-const TEXT: u64 = 0;
-
-const YANK: u64 = 9;
 // more names than 80 columns hold
 const NAMES: usize = 64;
 
-// A line's kind, and its first so many of four words.
-#[derive(Clone, Copy)]
-struct Asked {
-    kind: u64,
-    count: usize,
-    first: u64,
-    second: u64,
-    third: u64,
-    fourth: u64,
-}
-
-fn asks(kind: u64, count: usize, first: u64, second: u64, third: u64, fourth: u64) -> Asked {
-    Asked {
-        kind: kind,
-        count: count,
-        first: first,
-        second: second,
-        third: third,
-        fourth: fourth,
+// A line's kind, and the words that it names.
+fn named(kind: u64, words: &[u64]) -> Numbers {
+    Numbers {
+        number: 0,
+        first: kind,
+        second: words.len() as u64,
+        sum: sum_words(words),
     }
 }
 
-fn told(l: Line) -> Asked {
-    match l {
-        Line::Skipped => asks(1, 0, 0, 0, 0, 0),
-        Line::Deck(w) => asks(2, 1, w, 0, 0, 0),
-        Line::Comdeck(w) => asks(3, 1, w, 0, 0, 0),
-        Line::Ident(w) => asks(4, 1, w, 0, 0, 0),
-        Line::Insert(c) => asks(5, 2, c.name, c.seq, 0, 0),
-        Line::Before(c) => asks(6, 2, c.name, c.seq, 0, 0),
-        Line::Delete(a, b) => asks(7, 4, a.name, a.seq, b.name, b.seq),
-        Line::Restore(a, b) => asks(8, 4, a.name, a.seq, b.name, b.seq),
-        Line::Yank => asks(YANK, 0, 0, 0, 0, 0),
-        _ => asks(TEXT, 0, 0, 0, 0, 0),
-    }
-}
-
-fn summed(kind: u64, words: &[u64], count: usize) -> Answer {
-    let n = front_words(count, words);
-    Answer::Numbers(0, kind, n as u64, sum_words(&words[..n]))
-}
-
-fn put_names(field: &[u8], names: &mut [u64; NAMES]) -> usize {
+fn put_names<'a>(field: &[u8], names: &'a mut [u64; NAMES]) -> &'a [u64] {
     let mut at = 0;
-    let mut n = 0;
-    while n < NAMES {
+    for n in 0..NAMES {
         match words_lines_asked::next_name(field, at) {
             NameStep::Name { word, next } => {
                 names[n] = word;
                 at = next;
-                n += 1;
             }
             NameStep::End => {
-                return n;
+                return &names[..n];
             }
         }
     }
-    n
+    names
 }
 
-fn summed_names(names: &[u64; NAMES], count: usize) -> Answer {
-    summed(YANK, names, count)
-}
-
-fn yank(line: &[u8]) -> Answer {
-    let mut names = [0u64; NAMES];
-    let n = put_names(words_lines::field_of(line), &mut names);
-    summed_names(&names, n)
+// The names of a YANK, as its line has them.
+fn yank(line: &[u8]) -> Numbers {
+    let mut names = [0; NAMES];
+    named(9, put_names(words_lines::field_of(line), &mut names))
 }
 
 // A text line is a CALL's or no CALL: its words are 1 and the name, or 2 for a malformed one.
-fn text(line: &[u8]) -> Answer {
+fn text(line: &[u8]) -> Numbers {
     match words_lines::call_of(line) {
-        Call::Not => summed(TEXT, &[0, 0], 0),
-        Call::Of(w) => summed(TEXT, &[1, w], 2),
-        Call::Malformed => summed(TEXT, &[2, 0], 1),
+        Call::Not => named(0, &[]),
+        Call::Of(w) => named(0, &[1, w]),
+        Call::Malformed => named(0, &[2]),
     }
 }
 
-pub fn line(line: &[u8]) -> Answer {
+pub fn line(line: &[u8]) -> Numbers {
     let l = words_lines_asked::directive(line);
-    let number = words_lines_asked::line_number(l);
-    if number != 0 {
-        return Answer::Numbers(number, 0, 0, 0);
+    match l {
+        Line::Text => text(line),
+        Line::Skipped => named(1, &[]),
+        Line::Deck(w) => named(2, &[w]),
+        Line::Comdeck(w) => named(3, &[w]),
+        Line::Ident(w) => named(4, &[w]),
+        Line::Insert(c) => named(5, &[c.name, c.seq]),
+        Line::Before(c) => named(6, &[c.name, c.seq]),
+        Line::Delete(a, b) => named(7, &[a.name, a.seq, b.name, b.seq]),
+        Line::Restore(a, b) => named(8, &[a.name, a.seq, b.name, b.seq]),
+        Line::Yank => yank(line),
+        Line::Outside | Line::Long | Line::Malformed | Line::NotCarried => Numbers {
+            number: words_lines_asked::line_number(l),
+            first: 0,
+            second: 0,
+            sum: 0,
+        },
     }
-    let t = told(l);
-    let kind = t.kind;
-    if kind == TEXT {
-        return text(line);
-    }
-    if kind == YANK {
-        return yank(line);
-    }
-    summed(kind, &[t.first, t.second, t.third, t.fourth], t.count)
 }

@@ -9,10 +9,12 @@
 mod answer;
 mod feed;
 mod line;
+mod op;
 mod ops;
 mod space;
 
-use answer::Answer;
+use answer::Unanswered;
+use cases_sums::Head;
 use feed::{BYTES, Feed, INPUT, WORDS};
 use ops::{FILE, LIBRARY};
 use std::io;
@@ -20,62 +22,37 @@ use std::io::Read;
 
 // Reads a case, its head and then its blobs. The feed is over when the input has ended within it.
 fn read<R: Read>(
-    reader: &mut R,
-    input: &mut [u8; INPUT],
-    feed: Feed,
-    head: &mut [u8; 13],
+    feed: &mut Feed<'_, R>,
     words: &mut [u64; WORDS],
     bytes: &mut [u8; BYTES],
-) -> io::Result<Feed> {
-    let past = feed::take_bytes(reader, input, feed, head)?;
-    feed::load(
-        reader,
-        input,
-        past,
-        cases_sums::read_head(head),
-        words,
-        bytes,
-    )
+) -> io::Result<Head> {
+    let mut head = [0; 13];
+    feed.take_bytes(&mut head)?;
+    let head = cases_sums::read_head(&head);
+    feed.load(head, words, bytes)?;
+    Ok(head)
 }
 
-// Answers the case that was read.
-fn answer_one(
-    rt: &impl Print,
-    over: bool,
-    head: &[u8; 13],
-    words: &[u64; WORDS],
-    bytes: &[u8; BYTES],
-    library: &mut [u64; LIBRARY],
-    file: &mut [u8; FILE],
-) -> io::Result<()> {
-    let h = cases_sums::read_head(head);
-    if over {
-        return answer::write(rt, h.op, Answer::Truncated);
-    }
-    answer::write(rt, h.op, ops::answer(h, words, bytes, library, file))
-}
-
-// A proved loop has to end, and nothing says that the input does: the turns count down from a number that no run uses up.
+// A proved loop has to end, and nothing says that the input does: the turns are more than any run uses up.
 fn answer_all<R: Read>(
     rt: &impl Print,
-    reader: &mut R,
-    input: &mut [u8; INPUT],
+    feed: &mut Feed<'_, R>,
     words: &mut [u64; WORDS],
     bytes: &mut [u8; BYTES],
     library: &mut [u64; LIBRARY],
     file: &mut [u8; FILE],
 ) -> io::Result<()> {
-    let mut head = [0u8; 13];
-    let mut feed = feed::start();
-    let mut turns = u64::MAX;
-    while turns > 0 {
-        feed = feed::ready(reader, input, feed)?;
-        if feed.over {
+    for _ in 0..u64::MAX {
+        if feed.ready()?.is_none() {
             return Ok(());
         }
-        feed = read(reader, input, feed, &mut head, words, bytes)?;
-        answer_one(rt, feed.over, &head, words, bytes, library, file)?;
-        turns -= 1;
+        let head = read(feed, words, bytes)?;
+        let answer = if feed.rest.is_none() {
+            Err(Unanswered::Truncated)
+        } else {
+            ops::answer(head, words, bytes, library, file)
+        };
+        answer::write(rt, head.op, answer)?;
     }
     Ok(())
 }
@@ -89,8 +66,7 @@ fn main(rt: HostRuntime) -> io::Result<()> {
     let mut file = [0u8; FILE];
     answer_all(
         &rt,
-        &mut rt.stdin(),
-        &mut input,
+        &mut Feed::start(&mut rt.stdin(), &mut input),
         &mut words,
         &mut bytes,
         &mut library,

@@ -1,8 +1,7 @@
 // The ops. One more is an arm of `answer` and a function that lends the fronts of the arrays to the engine; none needs a proof file.
-ghost use Rattle.cases.specs.Counts.{IsPrefixLen};
-
-use crate::answer::Answer;
-use crate::space::{front_bytes, front_words};
+use crate::answer::{Numbers, Unanswered};
+use crate::op::Op;
+use crate::space::{front, whole_words};
 use cases_sums::{Head, fill_bytes, fill_words, sum_bytes, sum_words};
 use words_packing::Packing;
 use words_text_compress::Compressed;
@@ -13,179 +12,152 @@ pub const LIBRARY: usize = 65536;
 
 pub const FILE: usize = 182000;
 
-fn packing_answer(p: Packing, room: &[u8]) -> Answer {
-    let sum = sum_bytes(room);
-    Answer::Numbers(
-        words_packing::packing_number(p),
-        words_packing::packing_value(p),
-        0,
-        sum,
-    )
+// Words or bytes of a blob, or the space of a call, where the array has so many.
+fn lent<T>(n: usize, array: &[T]) -> Result<&[T], Unanswered> {
+    array.get(..n).ok_or(Unanswered::Beyond)
 }
 
-fn pack_into(source: &[u8], room: &mut [u8]) -> Answer {
+fn lent_mut<T>(n: usize, array: &mut [T]) -> Result<&mut [T], Unanswered> {
+    array.get_mut(..n).ok_or(Unanswered::Beyond)
+}
+
+// An image or a text of n bytes, which are whole words.
+fn image(n: usize, words: &[u64]) -> Result<&[u64], Unanswered> {
+    lent(whole_words(n).ok_or(Unanswered::Beyond)?, words)
+}
+
+fn pack(head: Head, bytes: &[u8], file: &mut [u8]) -> Result<Numbers, Unanswered> {
+    let source = lent(head.first, bytes)?;
+    let room = lent_mut(head.room, file)?;
     fill_bytes(room);
     let p = words_packing::pack_bytes(source, room);
-    packing_answer(p, room)
+    Ok(Numbers {
+        number: words_packing::packing_number(p),
+        first: words_packing::packing_value(p),
+        second: 0,
+        sum: sum_bytes(room),
+    })
 }
 
-fn pack(head: Head, bytes: &[u8], file: &mut [u8]) -> Answer {
-    let n = front_bytes(head.first, bytes);
-    let room = front_bytes(head.room, file);
-    if n < head.first || room < head.room {
-        return Answer::Beyond;
-    }
-    pack_into(&bytes[..n], &mut file[..room])
-}
-
-fn unpack_into(source: &[u8], room: &mut [u8]) -> Answer {
+fn unpack(head: Head, bytes: &[u8], file: &mut [u8]) -> Result<Numbers, Unanswered> {
+    let source = lent(head.first, bytes)?;
+    let room = lent_mut(head.room, file)?;
     fill_bytes(room);
     let p = words_packing::unpack_bytes(source, room);
-    packing_answer(p, room)
+    Ok(Numbers {
+        number: words_packing::packing_number(p),
+        first: words_packing::packing_value(p),
+        second: 0,
+        sum: sum_bytes(room),
+    })
 }
 
-fn unpack(head: Head, bytes: &[u8], file: &mut [u8]) -> Answer {
-    let n = front_bytes(head.first, bytes);
-    let room = front_bytes(head.room, file);
-    if n < head.first || room < head.room {
-        return Answer::Beyond;
-    }
-    unpack_into(&bytes[..n], &mut file[..room])
-}
-
-// As the fronts of slices, for the arrays of a text and of a line.
-fn front_text(n: usize, s: &[u64; 16]) -> usize
-    ensures { IsPrefixLen result s.now }
-{
-    front_words(n, s)
-}
-
-fn front_line(n: usize, s: &[u8; 80]) -> usize
-    ensures { IsPrefixLen result s.now }
-{
-    front_bytes(n, s)
-}
-
-fn compress(head: Head, bytes: &[u8]) -> Answer {
-    let n = front_bytes(head.first, bytes);
-    if n < head.first {
-        return Answer::Beyond;
-    }
+fn compress(head: Head, bytes: &[u8]) -> Result<Numbers, Unanswered> {
+    let line = lent(head.first, bytes)?;
     let mut text = [0u64; 16];
-    let c = words_text_compress::compress(&bytes[..n], &mut text);
-    match c {
+    let c = words_text_compress::compress(line, &mut text);
+    Ok(match c {
         Compressed::Words(count) => {
-            let k = front_text(count, &text);
-            Answer::Numbers(0, count as u64, 0, sum_words(&text[..k]))
+            let k = front(count, &text);
+            Numbers {
+                number: 0,
+                first: count as u64,
+                second: 0,
+                sum: sum_words(&text[..k]),
+            }
         }
-        _ => Answer::Numbers(words_text_compress::compressed_number(c), 0, 0, 0),
-    }
+        _ => Numbers {
+            number: words_text_compress::compressed_number(c),
+            first: 0,
+            second: 0,
+            sum: 0,
+        },
+    })
 }
 
-fn expand(head: Head, words: &[u64]) -> Answer {
-    let n = front_words(head.first / 8, words);
-    if n * 8 < head.first {
-        return Answer::Beyond;
-    }
+fn expand(head: Head, words: &[u64]) -> Result<Numbers, Unanswered> {
+    let text = image(head.first, words)?;
     let mut line = [0u8; 80];
-    let e = words_text_expand::expand(&words[..n], &mut line);
-    match e {
+    let e = words_text_expand::expand(text, &mut line);
+    Ok(match e {
         Expanded::Columns(count) => {
-            let k = front_line(count, &line);
-            Answer::Numbers(0, count as u64, 0, sum_bytes(&line[..k]))
+            let k = front(count, &line);
+            Numbers {
+                number: 0,
+                first: count as u64,
+                second: 0,
+                sum: sum_bytes(&line[..k]),
+            }
         }
-        Expanded::NoText => Answer::Numbers(words_text_expand::expanded_number(e), 0, 0, 0),
-    }
+        Expanded::NoText => Numbers {
+            number: words_text_expand::expanded_number(e),
+            first: 0,
+            second: 0,
+            sum: 0,
+        },
+    })
 }
 
-fn line(head: Head, bytes: &[u8]) -> Answer {
-    let n = front_bytes(head.first, bytes);
-    if n < head.first {
-        return Answer::Beyond;
-    }
-    crate::line::line(&bytes[..n])
+fn line(head: Head, bytes: &[u8]) -> Result<Numbers, Unanswered> {
+    Ok(crate::line::line(lent(head.first, bytes)?))
 }
 
-fn check(head: Head, words: &[u64]) -> Answer {
-    let n = front_words(head.first / 8, words);
-    if n * 8 < head.first {
-        return Answer::Beyond;
-    }
-    let c = library_check::check(&words[..n]);
-    Answer::Numbers(library::checked_number(c), library::checked_place(c), 0, 0)
+fn check(head: Head, words: &[u64]) -> Result<Numbers, Unanswered> {
+    let c = library_check::check(image(head.first, words)?);
+    Ok(Numbers {
+        number: library::checked_number(c),
+        first: library::checked_place(c),
+        second: 0,
+        sum: 0,
+    })
 }
 
-fn run_into(old: &[u64], stream: &[u8], room: &mut [u64]) -> Answer {
+fn run(
+    head: Head,
+    words: &[u64],
+    bytes: &[u8],
+    library: &mut [u64],
+) -> Result<Numbers, Unanswered> {
+    let old = image(head.first, words)?;
+    let stream = lent(head.second, bytes)?;
+    let room = lent_mut(head.room, library)?;
     fill_words(room);
     let r = run::run(old, stream, room);
-    let sum = sum_words(room);
-    Answer::Numbers(
-        run_meaning::ran_number(r),
-        run_meaning::ran_value(r),
-        0,
-        sum,
-    )
+    Ok(Numbers {
+        number: run_meaning::ran_number(r),
+        first: run_meaning::ran_value(r),
+        second: 0,
+        sum: sum_words(room),
+    })
 }
 
-fn run(head: Head, words: &[u64], bytes: &[u8], library: &mut [u64]) -> Answer {
-    let n = front_words(head.first / 8, words);
-    let m = front_bytes(head.second, bytes);
-    let room = front_words(head.room, library);
-    if n * 8 < head.first || m < head.second || room < head.room {
-        return Answer::Beyond;
-    }
-    run_into(&words[..n], &bytes[..m], &mut library[..room])
-}
-
-fn compile_into(image: &[u64], room: &mut [u8]) -> Answer {
+fn compile(head: Head, words: &[u64], file: &mut [u8]) -> Result<Numbers, Unanswered> {
+    let image = image(head.first, words)?;
+    let room = lent_mut(head.room, file)?;
     fill_bytes(room);
     let c = compile::compile(image, room);
-    let sum = sum_bytes(room);
-    Answer::Numbers(
-        compile::compiled_number(c),
-        compile::compiled_first(c),
-        compile::compiled_second(c),
-        sum,
-    )
-}
-
-fn compile(head: Head, words: &[u64], file: &mut [u8]) -> Answer {
-    let n = front_words(head.first / 8, words);
-    let room = front_bytes(head.room, file);
-    if n * 8 < head.first || room < head.room {
-        return Answer::Beyond;
-    }
-    compile_into(&words[..n], &mut file[..room])
-}
-
-fn merge_into(first: &[u64], second: &[u64], room: &mut [u64]) -> Answer {
-    fill_words(room);
-    let m = merge::merge(first, second, room);
-    let sum = sum_words(room);
-    Answer::Numbers(
-        merge_meaning::merged_number(m),
-        merge_meaning::merged_value(m),
-        merge_meaning::merged_which(m),
-        sum,
-    )
+    Ok(Numbers {
+        number: compile::compiled_number(c),
+        first: compile::compiled_first(c),
+        second: compile::compiled_second(c),
+        sum: sum_bytes(room),
+    })
 }
 
 // The second image stands behind the first.
-fn merge_behind(head: Head, first: &[u64], behind: &[u64], library: &mut [u64]) -> Answer {
-    let k = front_words(head.second / 8, behind);
-    let room = front_words(head.room, library);
-    if k * 8 < head.second || room < head.room {
-        return Answer::Beyond;
-    }
-    merge_into(first, &behind[..k], &mut library[..room])
-}
-
-fn merge(head: Head, words: &[u64], library: &mut [u64]) -> Answer {
-    let n = front_words(head.first / 8, words);
-    if n * 8 < head.first {
-        return Answer::Beyond;
-    }
-    merge_behind(head, &words[..n], &words[n..], library)
+fn merge(head: Head, words: &[u64], library: &mut [u64]) -> Result<Numbers, Unanswered> {
+    let at = front(head.first / 8, words);
+    let first = image(head.first, words)?;
+    let second = image(head.second, &words[at..])?;
+    let room = lent_mut(head.room, library)?;
+    fill_words(room);
+    let m = merge::merge(first, second, room);
+    Ok(Numbers {
+        number: merge_meaning::merged_number(m),
+        first: merge_meaning::merged_value(m),
+        second: merge_meaning::merged_which(m),
+        sum: sum_words(room),
+    })
 }
 
 pub fn answer(
@@ -194,18 +166,16 @@ pub fn answer(
     bytes: &[u8],
     library: &mut [u64; LIBRARY],
     file: &mut [u8; FILE],
-) -> Answer {
-    let op = head.op;
-    match op {
-        1 => check(head, words),
-        2 => run(head, words, bytes, library),
-        3 => compile(head, words, file),
-        4 => pack(head, bytes, file),
-        5 => unpack(head, bytes, file),
-        6 => compress(head, bytes),
-        7 => expand(head, words),
-        8 => line(head, bytes),
-        9 => merge(head, words, library),
-        _ => Answer::NotCarried,
+) -> Result<Numbers, Unanswered> {
+    match Op::try_from(head.op)? {
+        Op::Check => check(head, words),
+        Op::Run => run(head, words, bytes, library),
+        Op::Compile => compile(head, words, file),
+        Op::Pack => pack(head, bytes, file),
+        Op::Unpack => unpack(head, bytes, file),
+        Op::Compress => compress(head, bytes),
+        Op::Expand => expand(head, words),
+        Op::Line => line(head, bytes),
+        Op::Merge => merge(head, words, library),
     }
 }

@@ -1,9 +1,0 @@
--- The count stays within n, and each turn that does not return takes one byte.
-use Prim.Native.Nat.{◌-◌, ◌≤◌}
-use Rattle.cases.proofs.feed.skip.Given as goal
-
-abbrev pub invariant-loop-i : goal.invariant-loop-i
-invariant-loop-i g l = l.i ≤ l.n
-
-abbrev pub decreases-loop-i : goal.decreases-loop-i
-decreases-loop-i g l = l.n - l.i
