@@ -1,7 +1,7 @@
 // Op 8: what a line asks, as the number of its kind and the words that it names (tests/CASES.md).
 use crate::answer::Numbers;
 use cases_sums::sum_words;
-use words_lines::{Call, Line, NameStep};
+use words_lines::{Call, Line};
 
 // more names than 80 columns hold
 const NAMES: usize = 64;
@@ -19,15 +19,11 @@ fn named(kind: u64, words: &[u64]) -> Numbers {
 fn put_names<'a>(field: &[u8], names: &'a mut [u64; NAMES]) -> &'a [u64] {
     let mut at = 0;
     for n in 0..NAMES {
-        match words_lines_asked::next_name(field, at) {
-            NameStep::Name { word, next } => {
-                names[n] = word;
-                at = next;
-            }
-            NameStep::End => {
-                return &names[..n];
-            }
-        }
+        let Some(name) = words_lines_asked::next_name(field, at) else {
+            return &names[..n];
+        };
+        names[n] = name.word;
+        at = name.next;
     }
     names
 }

@@ -3,9 +3,6 @@ use crate::answer::{Numbers, Unanswered};
 use crate::op::Op;
 use crate::space::{front, whole_words};
 use cases_sums::{Head, fill_bytes, fill_words, sum_bytes, sum_words};
-use words_packing::Packing;
-use words_text_compress::Compressed;
-use words_text_expand::Expanded;
 
 // the lengths of the arrays whose fronts are the room of a call
 pub const LIBRARY: usize = 65536;
@@ -56,22 +53,12 @@ fn compress(head: Head, bytes: &[u8]) -> Result<Numbers, Unanswered> {
     let line = lent(head.first, bytes)?;
     let mut text = [0u64; 16];
     let c = words_text_compress::compress(line, &mut text);
-    Ok(match c {
-        Compressed::Words(count) => {
-            let k = front(count, &text);
-            Numbers {
-                number: 0,
-                first: count as u64,
-                second: 0,
-                sum: sum_words(&text[..k]),
-            }
-        }
-        _ => Numbers {
-            number: words_text_compress::compressed_number(c),
-            first: 0,
-            second: 0,
-            sum: 0,
-        },
+    let count = c.unwrap_or(0);
+    Ok(Numbers {
+        number: words_text_compress::compressed_number(c),
+        first: count as u64,
+        second: 0,
+        sum: sum_words(&text[..front(count, &text)]),
     })
 }
 
@@ -79,22 +66,12 @@ fn expand(head: Head, words: &[u64]) -> Result<Numbers, Unanswered> {
     let text = image(head.first, words)?;
     let mut line = [0u8; 80];
     let e = words_text_expand::expand(text, &mut line);
-    Ok(match e {
-        Expanded::Columns(count) => {
-            let k = front(count, &line);
-            Numbers {
-                number: 0,
-                first: count as u64,
-                second: 0,
-                sum: sum_bytes(&line[..k]),
-            }
-        }
-        Expanded::NoText => Numbers {
-            number: words_text_expand::expanded_number(e),
-            first: 0,
-            second: 0,
-            sum: 0,
-        },
+    let count = e.unwrap_or(0);
+    Ok(Numbers {
+        number: words_text_expand::expanded_number(e),
+        first: count as u64,
+        second: 0,
+        sum: sum_bytes(&line[..front(count, &line)]),
     })
 }
 
