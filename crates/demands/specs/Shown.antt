@@ -5,7 +5,7 @@
 --   compile lines      line_a, line_a3, line_b
 --   the cases          cases
 --   the statement      AllHold
-use Rattle.std.specs.Prelude.{ℕ, Bool, false, ◌&&◌, List, [], ◌∷◌, ◌++◌, T, eqb, length, replicate}
+use Rattle.std.specs.Prelude.{ℕ, Bool, false, ◌&&◌, List, [], ◌∷◌, ◌++◌, T, eqb, length, replicate, Result}
 use Prim.Native.String.{String}
 use Rattle.words.specs.Base.{bytes, all, same}
 use Rattle.words_packing.specs.Pack.{packed, unpacked}
@@ -15,7 +15,8 @@ use Rattle.library.specs.Image.{encode}
 use Rattle.library.specs.Check.{Checking, good, bad, check}
 use Rattle.run_meaning.specs.Run.{Running, new_library, bad_library, bad_stream, running, why_number}
 use Rattle.compile.specs.Compile.{Compiling, compiling, compiled, compile_into, compiled_number, compiled_first, compiled_second, program}
-use Rattle.compile.specs.declared.Compiled.{Compiled}
+use Rattle.compile.specs.declared.CompileRefused.{CompileRefused}
+use Rattle.compile_walk.specs.declared.Counts.{Counts}
 
 pub data Case : Type 0 where
   gives : List String → List ℕ → Case  -- these lines, run on the fresh library, give these words, and the check reads them back
@@ -48,7 +49,7 @@ refused_with (new_library l) k n = false
 refused_with (bad_library f p) k n = false
 refused_with (bad_stream w m) k n = eqb (why_number w) k && eqb m n
 
-abbrev pub answered : Compiled → ℕ → ℕ → ℕ → Bool
+abbrev pub answered : Result Counts CompileRefused → ℕ → ℕ → ℕ → Bool
 answered c k a b = eqb (compiled_number c) k && eqb (compiled_first c) a && eqb (compiled_second c) b
 
 -- the file and its two counts
