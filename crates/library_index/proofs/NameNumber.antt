@@ -1,19 +1,41 @@
--- A name's number in the directory from a place on, for each way out of the search. Assumes nothing.
-use Prim.Native.Nat.{ℕ, ◌+◌, ◌≤◌, ◌<◌}
+-- A name's number in the directory, by the place of the first entry that has it. Assumes nothing.
+use Rattle.std.specs.Prelude.{Option, Some, None, cond, not, ◌==◌, nat_lt, if◌then◌else◌}
+use Rattle.std.specs.Option.{option_map_or}
+use Rattle.std.specs.List.{position, position_or_len}
+use Rattle.std.proofs.lemmas.List.Recursion.{is_position_or_len}
+use Prim.Native.Nat.{ℕ, ◌+◌, suc}
+use Rattle.std.proofs.lemmas.Bool.Decides.{nat_tests}
+use native.Mathlib.Omega.{arith}
 use native.Mathlib.Numerals.{add-one}
-use mathlib.Core.Path.{◌≡◌, sym}
-use mathlib.Core.List.{List}
-use borrow.Author.Tests.{eq-eqb, ne_eqb}
-use lib.ListN.{length, get_or, drop, drop_of_length-le}
-use lib.Seq.{drop-cons}
-use Rattle.library.specs.Library.{entry_from}
+use mathlib.Core.Path.{◌≡◌, refl, sym, ap, ◌∙◌}
+use mathlib.Core.Bool.{Bool, true, false}
+use mathlib.Core.List.{List, [], ◌∷◌}
+use borrow.Author.Tests.{eqb-true, eqb-false, eq-eqb, ne_eqb}
+use lib.Dec.{eqb}
+use lib.ListN.{length}
+use Rattle.library.specs.Library.{entry_from, entry_of}
 
-module _ (w : ℕ) (d : List ℕ) (i : ℕ) where
-  pub entry_here : i < length d → get_or d i 0 ≡ w → entry_from w (i + 1) (drop i d) ≡ i + 1
-  entry_here h e = rw (drop-cons d i 0 h, eq-eqb w (get_or d i 0) (sym e))
+-- the number from the place
+abbrev numbered : Option ℕ → ℕ
+numbered o = option_map_or (λ k. k + 1) o 0
 
-  pub entry-on : i < length d → (get_or d i 0 ≡ w → ⊥) → entry_from w (i + 1) (drop i d) ≡ entry_from w (i + 1 + 1) (drop (i + 1) d)
-  entry-on h ne = rw (drop-cons d i 0 h, ne_eqb w (get_or d i 0) (λ e. ne (sym e)), add-one (i + 1), add-one i)
+-- the test of the search is that of the number
+turned : (w x : ℕ) → (x == w) ≡ eqb w x
+turned w x = grind (arith, nat_tests)
 
-  pub entry-none : length d ≤ i → entry_from w (i + 1) (drop i d) ≡ 0
-  entry-none h = rw (drop_of_length-le d h)
+step : (b : Bool) (i n p later : ℕ) → later ≡ cond (nat_lt p n) (suc i + p) 0
+    → (if b then i else later) ≡ cond (nat_lt (cond (not b) (1 + p) 0) (suc n)) (i + cond (not b) (1 + p) 0) 0
+step true i n p later h = grind (arith, nat_tests)
+step false i n p later h = grind (arith, nat_tests)
+
+first_is : (w i : ℕ) (d : List ℕ) → entry_from w i d ≡ cond (nat_lt (position_or_len (λ x. x == w) d) (length d)) (i + position_or_len (λ x. x == w) d) 0
+first_is w i [] = refl
+first_is w i (x ∷ xs) = rw (turned w x) (step (eqb w x) i (length xs) (position_or_len (λ y. y == w) xs) (entry_from w (suc i) xs) (first_is w (suc i) xs))
+
+pub entry-position : (w : ℕ) (d : List ℕ) → numbered (position (λ x. x == w) d) ≡ entry_of d w
+unfolding entry_of
+entry-position w d = go (nat_lt (position_or_len (λ x. x == w) d) (length d)) ∙ sym (first_is w 1 d)
+  where
+    go : (b : Bool) → numbered (cond b (Some (position_or_len (λ x. x == w) d)) None) ≡ cond b (1 + position_or_len (λ x. x == w) d) 0
+    go true = grind arith
+    go false = refl

@@ -1,11 +1,9 @@
 -- A name's ways lead through the tree to the first entry that has it; where they end no entry has it. Assumes nothing.
---   Going, walk-..                 the walk, one law for each way out of it
---   grow-.., Planting, plant-..    the entries one after another
---   by-..                          a name's number
+--   Going, walk_start              the walk
 --   Tree, tree-none                the tree
 --   Seeking, seek-.., came         what the walk comes to in a tree
 --   tree-more, planted-entry       a planted tree knows every name
-use Rattle.std.specs.Prelude.{if◌then◌else◌}
+use Rattle.std.specs.Prelude.{Result, Ok, Err, if◌then◌else◌}
 use Prim.Native.Nat.{ℕ, zero, suc, ◌+◌, ◌*◌, ◌/◌, ◌%◌, ◌≤◌, ◌<◌}
 use native.Mathlib.Omega.{arith}
 use native.Mathlib.Numerals.{add-one}
@@ -21,8 +19,6 @@ use Rattle.library.specs.Library.{entry_from, entry_of}
 use Rattle.library_index_twice.specs.KeyTree.{way_of, Leads}
 use Rattle.library_index_twice.proofs.WaysKept.{Keeps, lead-on, leads-kept}
 use Rattle.library_index.specs.Names.{start_of, walked, entry_number, led, grown, grown_to, planted, entry_by, Knows}
-use Rattle.library_index.specs.declared.names.Walked.{Walked}
-use Rattle.library_index.specs.declared.names.Walked.TheVariants.{Stands, Ends}
 use Rattle.library_index.proofs.Zeros.{zeros-zero}
 
 -- THE WALK: what is still to go from here ends where the whole does
@@ -32,70 +28,6 @@ module _ (d ways : List ℕ) (n w : ℕ) where
 
   pub walk_start : (s : ℕ) → s ≡ start_of w → Going 0 s
   walk_start s e = (n, (omega arith, ap (walked n d ways n w 0) (sym e)))
-
-  module _ (at rest : ℕ) where
-    pub walk-out : n ≤ at → Going at rest → Ends (rest % 4) ≡ walked n d ways n w 0 (start_of w)
-    walk-out h (zero, g) = let z : rest % 4 ≡ way_of 0 rest = omega arith in ap Ends z ∙ sym g.1
-    walk-out h (suc k, g) = let z : rest % 4 ≡ way_of 0 rest = omega arith in ap Ends z ∙ sym (g.1 ∙ rw (le-ltb at n h))
-
-    module _ (h : at < n) where
-      pub walk_here : get_or d at 0 ≡ w → Going at rest → Stands (at + 1) ≡ walked n d ways n w 0 (start_of w)
-      walk_here e (zero, g) = absurd (omega (arith, g.0))
-      walk_here e (suc k, g) = sym (g.1 ∙ rw (lt-ltb at n h, eq-eqb (get_or d at 0) w e))
-
-      module _ (other : get_or d at 0 ≡ w → ⊥) where
-        pub walk_ends : get_or ways (way_of at rest) 0 ≤ at → Going at rest → Ends (way_of at rest) ≡ walked n d ways n w 0 (start_of w)
-        walk_ends le (zero, g) = absurd (omega (arith, g.0))
-        walk_ends le (suc k, g) = sym (g.1 ∙ rw (lt-ltb at n h, ne_eqb (get_or d at 0) w other, le-leb (get_or ways (way_of at rest) 0) at le))
-
-        pub walk-on : at < get_or ways (way_of at rest) 0 → Going at rest → Going (get_or ways (way_of at rest) 0) (rest / 4)
-        walk-on lt (zero, g) = absurd (omega (arith, g.0))
-        walk-on lt (suc k, g) = (k, (omega (arith, g.0), g.1 ∙ rw (lt-ltb at n h, ne_eqb (get_or d at 0) w other, lt-leb (get_or ways (way_of at rest) 0) at lt)))
-
--- ONE ENTRY: its name stands already, or a way leads to it
-module _ (d ways : List ℕ) (n : ℕ) (r : Walked) (is : r ≡ walked n d ways n (get_or d n 0) 0 (start_of (get_or d n 0))) where
-  pub grow-none : (m : ℕ) → r ≡ Stands m → ways ≡ grown d ways n
-  grow-none m e = sym (ap (led ways n) (sym is ∙ e))
-
-  pub grow-way : (way : ℕ) → r ≡ Ends way → set ways way n ≡ grown d ways n
-  grow-way way e = sym (ap (led ways n) (sym is ∙ e))
-
--- THE PLANTING: the entries ahead of a place are planted
-module _ (d before : List ℕ) where
-  abbrev pub Planting : List ℕ → ℕ → Type 0
-  Planting now n = (length now ≡ 4096) × (now ≡ grown_to n d before)
-
-  module _ (now : List ℕ) (n : ℕ) (inv : Planting now n) where
-    pub plant-more : (after : List ℕ) → length after ≡ length now → after ≡ grown d now n → Planting after (n + 1)
-    plant-more after l e = (l ∙ inv.0, e ∙ ap (λ (ws : List ℕ). grown d ws n) inv.1 ∙ ap (λ (k : ℕ). grown_to k d before) (sym (add-one n)))
-
-    plant-is : n ≡ (if leb (length d) 1024 then length d else 1024) → now ≡ planted d before
-    unfolding planted
-    plant-is e = inv.1 ∙ ap (λ (k : ℕ). grown_to k d before) e
-
-    -- there is no room for more, or there are no more
-    pub plant-full : n ≡ 1024 → n < length d → now ≡ planted d before
-    plant-full e h = let lt : 1024 < length d = omega arith in plant-is (e ∙ rw (lt-leb (length d) 1024 lt))
-
-    pub plant-end : n ≡ length d → n ≤ 1024 → now ≡ planted d before
-    plant-end e h = let le : length d ≤ 1024 = omega arith in plant-is (e ∙ rw (le-leb (length d) 1024 le))
-
--- A NAME'S NUMBER, by a search or by its ways
-module _ (d ways : List ℕ) (w : ℕ) where
-  pub by-search : 1024 < length d → (r : ℕ) → r ≡ entry_of d w → r ≡ entry_by d ways w
-  unfolding entry_by
-  by-search h r e = rw (lt-ltb 1024 (length d) h) e
-
-  module _ (h : length d ≤ 1024) (r : Walked) (is : r ≡ walked (length d) d ways (length d) w 0 (start_of w)) where
-    by-walk : entry_number r ≡ entry_by d ways w
-    unfolding entry_by
-    by-walk = rw (le-ltb 1024 (length d) h) (ap entry_number is)
-
-    pub by-stands : (n : ℕ) → r ≡ Stands n → n ≡ entry_by d ways w
-    by-stands n e = sym (ap entry_number e) ∙ by-walk
-
-    pub by-ends : (way : ℕ) → r ≡ Ends way → 0 ≡ entry_by d ways w
-    by-ends way e = sym (ap entry_number e) ∙ by-walk
 
 -- where it stands first, and where nowhere
 first_entry : (w c i : ℕ) (xs : List ℕ) → i < length xs → get_or xs i 0 ≡ w → ((j : ℕ) → j < i → get_or xs j 0 ≡ w → ⊥) → entry_from w c xs ≡ c + i
@@ -151,9 +83,9 @@ record Lacks (d ways : List ℕ) (n w way : ℕ) : Type 0 where
   none : (j : ℕ) → j < n → get_or d j 0 ≡ w → ⊥
   more : get_or d n 0 ≡ w → n < 1024 → Tree d (set ways way n) (suc n)
 
-abbrev Came : List ℕ → List ℕ → ℕ → ℕ → Walked → Type 0
-Came d ways n w (Stands m) = First d ways n w m
-Came d ways n w (Ends way) = Lacks d ways n w way
+abbrev Came : List ℕ → List ℕ → ℕ → ℕ → Result ℕ ℕ → Type 0
+Came d ways n w (Ok m) = First d ways n w m
+Came d ways n w (Err way) = Lacks d ways n w way
 
 module _ (d ways : List ℕ) (n w : ℕ) (tree : Tree d ways n) where
   leads-later : (k at rest m : ℕ) → Leads ways k at rest m → at ≤ m
@@ -278,7 +210,7 @@ module _ (d ways : List ℕ) (n w : ℕ) (tree : Tree d ways n) where
     where
       go : (a : Bool) → ltb at n ≡ a → (b : Bool) → eqb (get_or d at 0) w ≡ b → (c : Bool) → leb (get_or ways (way_of at rest) 0) at ≡ c
           → (Seeking d ways n w (get_or ways (way_of at rest) 0) (rest / 4) → n ≤ get_or ways (way_of at rest) 0 + k → Came d ways n w (walked k d ways n w (get_or ways (way_of at rest) 0) (rest / 4)))
-          → Came d ways n w (if a then (if b then Stands (at + 1) else (if c then Ends (way_of at rest) else walked k d ways n w (get_or ways (way_of at rest) 0) (rest / 4))) else Ends (way_of 0 rest))
+          → Came d ways n w (if a then (if b then Ok (at + 1) else (if c then Err (way_of at rest) else walked k d ways n w (get_or ways (way_of at rest) 0) (rest / 4))) else Err (way_of 0 rest))
       go false e b f c g on = seek-out at rest s (ltb-false at n e)
       go true e true f c g on = seek_found at rest s (ltb-true at n e) (eqb-true (get_or d at 0) w f)
       go true e false f true g on = seek-ends at rest s (ltb-true at n e) (eqb-false (get_or d at 0) w f) (ended (dec_le 1 (get_or ways (way_of at rest) 0)))
@@ -294,9 +226,9 @@ module _ (d ways : List ℕ) (n w : ℕ) (tree : Tree d ways n) where
 tree-more : (d ways : List ℕ) (n : ℕ) → Tree d ways n → n < 1024 → Tree d (grown d ways n) (suc n)
 tree-more d ways n tree few = go (walked n d ways n (get_or d n 0) 0 (start_of (get_or d n 0))) (came d ways n (get_or d n 0) tree n 0 (start_of (get_or d n 0)) (seek-start d ways n (get_or d n 0) tree) (omega arith))
   where
-    go : (r : Walked) → Came d ways n (get_or d n 0) r → Tree d (led ways n r) (suc n)
-    go (Ends way) h = h.more refl few
-    go (Stands m) h = record {
+    go : (r : Result ℕ ℕ) → Came d ways n (get_or d n 0) r → Tree d (led ways n r) (suc n)
+    go (Err way) h = h.more refl few
+    go (Ok m) h = record {
       long = tree.long;
       rises = λ at rest q. let r = tree.rises at rest q in (r.0, omega (arith, r.1));
       leads = λ i l. stands i l (dec_le n i);
@@ -316,9 +248,9 @@ tree-knows : (d ways : List ℕ) → Tree d ways (length d) → (w : ℕ) → en
 unfolding entry_of
 tree-knows d ways tree w = go (walked (length d) d ways (length d) w 0 (start_of w)) (came d ways (length d) w tree (length d) 0 (start_of w) (seek-start d ways (length d) w tree) (omega arith))
   where
-    go : (r : Walked) → Came d ways (length d) w r → entry_number r ≡ entry_from w 1 d
-    go (Stands m) h = h.number ∙ omega arith ∙ sym (first_entry w 1 h.place d h.inside h.is h.first)
-    go (Ends way) h = sym (no-entry w 1 d h.none)
+    go : (r : Result ℕ ℕ) → Came d ways (length d) w r → entry_number r ≡ entry_from w 1 d
+    go (Ok m) h = h.number ∙ omega arith ∙ sym (first_entry w 1 h.place d h.inside h.is h.first)
+    go (Err way) h = sym (no-entry w 1 d h.none)
 
 knows : (d ways : List ℕ) → Tree d ways 0 → Knows d (planted d ways)
 unfolding planted entry_by

@@ -21,6 +21,7 @@ const QUOTIENT: u64 = 1024;
 // as much of it as there is room for
 const QUOTIENTS: u64 = 0o400000000000000000;
 
+#[tactic(auto, unfolding(crate::specs::Names::start_of))]
 fn start_of(w: u64) -> u64
     ensures { result ≡ start_of w }
 {
@@ -63,6 +64,7 @@ fn grow(directory: &[u64], ways: &mut [u16; ALL_WAYS], n: usize)
 }
 
 // The tree of a directory's names, from ways that are all zero.
+#[tactic(auto, unfolding(crate::specs::Names::planted))]
 pub fn plant(directory: &[u64], ways: &mut [u16; ALL_WAYS])
     ensures { ways.new ≡ planted directory.now ways.old }
 {
@@ -72,6 +74,7 @@ pub fn plant(directory: &[u64], ways: &mut [u16; ALL_WAYS])
 }
 
 // The number of a name in the directory, by these ways; 0 where it is not there. A directory of more entries than the ways have room for is searched.
+#[tactic(auto, unfolding(crate::specs::Names::entry_by))]
 pub fn entry_by(directory: &[u64], ways: &[u16; ALL_WAYS], w: u64) -> usize
     ensures { result ≡ entry_by directory.now ways.now w }
 {
