@@ -3,7 +3,7 @@
 --   cards-..           the answer from a place on
 --   Ended, ended       a text that passes, and the next card
 --   turn-..            the answer after n cards
-use Rattle.std.specs.Prelude.{if◌then◌else◌}
+use Rattle.std.specs.Prelude.{None, Some, Ok, if◌then◌else◌}
 use Prim.Native.Nat.{ℕ, zero, suc, ◌+◌, ◌-◌, ◌/◌, ◌%◌, ◌^◌, ◌≤◌, ◌<◌}
 use native.Mathlib.Omega.{arith}
 use mathlib.Core.Path.{◌≡◌, refl, sym, ap, ◌∙◌}
@@ -15,8 +15,7 @@ use lib.Seq.{drop-cons, drop-drop}
 use Rattle.words.specs.Base.{place_from}
 use Rattle.words.specs.Text.{is_text}
 use Rattle.library.specs.declared.Fault.TheVariants.{Form, Text}
-use Rattle.library.specs.declared.Found.TheVariants.{At, Nothing}
-use Rattle.library.specs.declared.Checked.TheVariants.{Sound, Refused}
+use Rattle.library.specs.Refused.{refused_at}
 use Rattle.library.specs.Check.{directory_count, deck_count, cards_place, Stored, Fields, Cards, cards, fault, also, fields_of, stored_of, is_last_word, ok_form, read_card, read_cards}
 use Rattle.library_cards.specs.Found.{cards_read, cards_answer, answer_from, text_if, text_found, text_count, end_at}
 use Rattle.library.proofs.CardWithin.{first-at, Formed, formed-at}
@@ -34,11 +33,11 @@ module _ (directory ws : List ℕ) (at : ℕ) where
     pub later : at < text
     pub within : text + text_count ws at ≤ length ws
 
-  unfoldable pub begun : (text : ℕ) → at < length ws → text_found directory ws at ≡ At text → Begun text
+  unfoldable pub begun : (text : ℕ) → at < length ws → text_found directory ws at ≡ Some text → Begun text
   unfolding text_found formed-at
   begun text inside e = go (place_from is_last_word 1 (drop at ws)) refl e
     where
-      pass : (k : ℕ) → place_from is_last_word 1 (drop at ws) ≡ some k → (b : Bool) → ok_form directory (fields_of (drop at ws) k) ≡ b → (if b then At (at + k) else Nothing) ≡ At text → Begun text
+      pass : (k : ℕ) → place_from is_last_word 1 (drop at ws) ≡ some k → (b : Bool) → ok_form directory (fields_of (drop at ws) k) ≡ b → (if b then Some (at + k) else None) ≡ Some text → Begun text
       pass k p true f e =
           let z : at + k ≡ text = cc in
           let h : 0 < k = (formed-at directory ws at inside k p f).some-heads in
@@ -46,7 +45,7 @@ module _ (directory ws : List ℕ) (at : ℕ) where
           record { card = formed-at directory ws at inside k p f; starts = sym z; later = omega arith; within = omega arith }
       pass k p false f e = absurd (let z : ◌≡◌ {A = ℕ} 0 1 = cc in omega arith)
 
-      go : (o : Option ℕ) → place_from is_last_word 1 (drop at ws) ≡ o → text_if directory ws at o ≡ At text → Begun text
+      go : (o : Option ℕ) → place_from is_last_word 1 (drop at ws) ≡ o → text_if directory ws at o ≡ Some text → Begun text
       go none p e = absurd (let z : ◌≡◌ {A = ℕ} 0 1 = cc in omega arith)
       go (some k) p e = pass k p (ok_form directory (fields_of (drop at ws) k)) refl e
 
@@ -55,15 +54,15 @@ answer-also s (cards ss) = refl
 answer-also s (fault f p) = refl
 
 module _ (directory ws : List ℕ) (at : ℕ) where
-  pub cards-end : (left : ℕ) → length ws ≤ at → answer_from directory ws left at ≡ Sound
+  pub cards-end : (left : ℕ) → length ws ≤ at → answer_from directory ws left at ≡ Ok tt
   cards-end left h = ap (λ (l : List ℕ). cards_answer (read_cards directory left l at)) (drop_of_length-le ws h) ∙ none_left left
     where
-      none_left : (n : ℕ) → cards_answer (read_cards directory n [] at) ≡ Sound
+      none_left : (n : ℕ) → cards_answer (read_cards directory n [] at) ≡ Ok tt
       none_left zero = refl
       none_left (suc n) = refl
 
   module _ (inside : at < length ws) where
-    pub cards-many : answer_from directory ws 0 at ≡ Refused Form at
+    pub cards-many : answer_from directory ws 0 at ≡ refused_at Form (Some at)
     cards-many = ap (λ (l : List ℕ). cards_answer (read_cards directory 0 l at)) (drop-cons ws at 0 inside)
 
     module _ (left : ℕ) where
@@ -75,16 +74,16 @@ module _ (directory ws : List ℕ) (at : ℕ) where
           ap (λ (l : List ℕ). cards_answer (read_cards directory (suc left) l at)) (drop-cons ws at 0 inside)
           ∙ ap (λ (l : List ℕ). cards_answer (read_card directory at l (place_from is_last_word 1 l) (λ k. read_cards directory left (drop k l) (at + k)))) (sym (drop-cons ws at 0 inside))
 
-      pub cards-form : text_found directory ws at ≡ Nothing → answer_from directory ws (suc left) at ≡ Refused Form at
+      pub cards-form : text_found directory ws at ≡ None → answer_from directory ws (suc left) at ≡ refused_at Form (Some at)
       unfolding text_found
       cards-form e = one-card ∙ go (place_from is_last_word 1 (drop at ws)) e
         where
-          fail : (k : ℕ) (b : Bool) → (if b then At (at + k) else Nothing) ≡ Nothing
-              → cards_answer (if not b then fault Form at else if not (is_text (fields_of (drop at ws) k).text) then fault Text at else also (stored_of at (fields_of (drop at ws) k)) (after (k + length (fields_of (drop at ws) k).text))) ≡ Refused Form at
+          fail : (k : ℕ) (b : Bool) → (if b then Some (at + k) else None) ≡ None
+              → cards_answer (if not b then fault Form at else if not (is_text (fields_of (drop at ws) k).text) then fault Text at else also (stored_of at (fields_of (drop at ws) k)) (after (k + length (fields_of (drop at ws) k).text))) ≡ refused_at Form (Some at)
           fail k true e = absurd (let z : ◌≡◌ {A = ℕ} 0 1 = cc in omega arith)
           fail k false e = refl
 
-          go : (o : Option ℕ) → text_if directory ws at o ≡ Nothing → cards_answer (read_card directory at (drop at ws) o after) ≡ Refused Form at
+          go : (o : Option ℕ) → text_if directory ws at o ≡ None → cards_answer (read_card directory at (drop at ws) o after) ≡ refused_at Form (Some at)
           go none e = refl
           go (some k) e = fail k (ok_form directory (fields_of (drop at ws) k)) e
 
@@ -97,7 +96,7 @@ module _ (directory ws : List ℕ) (at : ℕ) where
             one-card ∙ ap (λ (o : Option ℕ). cards_answer (read_card directory at (drop at ws) o after)) c.last
             ∙ ap (λ (b : Bool). cards_answer (if not b then fault Form at else if not (is_text f.text) then fault Text at else also (stored_of at f) (after (c.heads + length f.text)))) c.form
 
-        pub cards-text : is_text f.text ≡ false → answer_from directory ws (suc left) at ≡ Refused Text at
+        pub cards-text : is_text f.text ≡ false → answer_from directory ws (suc left) at ≡ refused_at Text (Some at)
         cards-text e = past-form ∙ ap (λ (b : Bool). cards_answer (if not b then fault Text at else also (stored_of at f) (after (c.heads + length f.text)))) e
 
         pub cards-on : is_text f.text ≡ true → (next : ℕ) → next ≡ at + c.heads + get_or ws at 0 / 2 ^ 36 % 2 ^ 18 → answer_from directory ws (suc left) at ≡ answer_from directory ws left next
@@ -118,19 +117,19 @@ module _ (ws : List ℕ) (at text : ℕ) where
     pub passes : is_text part ≡ true
     pub count : end ≡ text + text_count ws at
 
-  unfoldable pub ended : (end : ℕ) → end_at ws at text ≡ At end → Ended end
+  unfoldable pub ended : (end : ℕ) → end_at ws at text ≡ Some end → Ended end
   unfolding end_at
   ended end e = go (is_text part) refl e
     where
-      go : (b : Bool) → is_text part ≡ b → (if b then At (text + text_count ws at) else Nothing) ≡ At end → Ended end
+      go : (b : Bool) → is_text part ≡ b → (if b then Some (text + text_count ws at) else None) ≡ Some end → Ended end
       go true t e = let z : text + text_count ws at ≡ end = cc in record { passes = t; count = sym z }
       go false t e = absurd (let z : ◌≡◌ {A = ℕ} 0 1 = cc in omega arith)
 
-  pub no_end : end_at ws at text ≡ Nothing → is_text part ≡ false
+  pub no_end : end_at ws at text ≡ None → is_text part ≡ false
   unfolding end_at
   no_end e = go (is_text part) refl e
     where
-      go : (b : Bool) → is_text part ≡ b → (if b then At (text + text_count ws at) else Nothing) ≡ Nothing → is_text part ≡ false
+      go : (b : Bool) → is_text part ≡ b → (if b then Some (text + text_count ws at) else None) ≡ None → is_text part ≡ false
       go true t e = absurd (let z : ◌≡◌ {A = ℕ} 0 1 = cc in omega arith)
       go false t e = t
 
@@ -139,31 +138,31 @@ module _ (ws : List ℕ) (at text : ℕ) where
     lent : take (end - text) (drop text ws) ≡ part
     lent = let z : end - text ≡ text_count ws at = omega arith in ap (λ (n : ℕ). take n (drop text ws)) z
 
-    pub end-there : is_text (take (end - text) (drop text ws)) ≡ true → At end ≡ end_at ws at text
+    pub end-there : is_text (take (end - text) (drop text ws)) ≡ true → Some end ≡ end_at ws at text
     unfolding end_at
-    end-there t = ap At e ∙ sym (ap (λ (b : Bool). if b then At (text + text_count ws at) else Nothing) (ap is_text (sym lent) ∙ t))
+    end-there t = ap Some e ∙ sym (ap (λ (b : Bool). if b then Some (text + text_count ws at) else None) (ap is_text (sym lent) ∙ t))
 
-    pub end-not : is_text (take (end - text) (drop text ws)) ≡ false → Nothing ≡ end_at ws at text
+    pub end-not : is_text (take (end - text) (drop text ws)) ≡ false → None ≡ end_at ws at text
     unfolding end_at
-    end-not t = sym (ap (λ (b : Bool). if b then At (text + text_count ws at) else Nothing) (ap is_text (sym lent) ∙ t))
+    end-not t = sym (ap (λ (b : Bool). if b then Some (text + text_count ws at) else None) (ap is_text (sym lent) ∙ t))
 
 -- n cards are passed, and 16,383 are let in
 module _ (directory ws : List ℕ) (at n : ℕ) (inside : at < length ws) where
-  pub turn_many : n ≡ 16383 → answer_from directory ws (16383 - n) at ≡ Refused Form at
+  pub turn_many : n ≡ 16383 → answer_from directory ws (16383 - n) at ≡ refused_at Form (Some at)
   turn_many e = ap (λ (m : ℕ). answer_from directory ws (16383 - m) at) e ∙ cards-many directory ws at inside
 
   module _ (few : n < 16383) where
     one_less : 16383 - n ≡ suc (16383 - (n + 1))
     one_less = omega arith
 
-    pub turn-form : text_found directory ws at ≡ Nothing → answer_from directory ws (16383 - n) at ≡ Refused Form at
+    pub turn-form : text_found directory ws at ≡ None → answer_from directory ws (16383 - n) at ≡ refused_at Form (Some at)
     turn-form e = ap (λ (m : ℕ). answer_from directory ws m at) one_less ∙ cards-form directory ws at inside (16383 - (n + 1)) e
 
     module _ (text : ℕ) (b : Begun directory ws at text) where
       text-is : (fields_of (drop at ws) b.card.heads).text ≡ part ws at text
       text-is = text-part directory ws at b.card.heads ∙ ap (λ (m : ℕ). take (text_count ws at) (drop m ws)) (sym b.starts)
 
-      pub turn-text : end_at ws at text ≡ Nothing → answer_from directory ws (16383 - n) at ≡ Refused Text at
+      pub turn-text : end_at ws at text ≡ None → answer_from directory ws (16383 - n) at ≡ refused_at Text (Some at)
       turn-text e = ap (λ (m : ℕ). answer_from directory ws m at) one_less ∙ cards-text directory ws at inside (16383 - (n + 1)) b.card (ap is_text text-is ∙ no_end ws at text e)
 
       pub turn_on : (end : ℕ) → Ended ws at text end → answer_from directory ws (16383 - n) at ≡ answer_from directory ws (16383 - (n + 1)) end

@@ -6,13 +6,13 @@
 --   words-..       a card with so many words ahead of its text
 --   single-..      one whose first word has bit 59
 --   text-..        where the text starts of a card that passes row 5
-use Rattle.std.specs.Prelude.{if◌then◌else◌}
+use Rattle.std.specs.Prelude.{None, Some, if◌then◌else◌}
 use Prim.Native.Nat.{ℕ, zero, suc, ◌+◌, ◌-◌, ◌/◌, ◌%◌, ◌^◌, ◌≤◌, ◌<◌}
 use native.Mathlib.Omega.{arith}
 use native.Mathlib.Numerals.{add-one}
 use mathlib.Core.Path.{◌≡◌, refl, sym, ap, ◌∙◌, subst}
 use mathlib.Core.Bool.{Bool, true, false, ◌&&◌, not}
-use mathlib.Core.List.{List, [], ◌∷◌}
+use mathlib.Core.List.{List, [], ◌∷◌, ◌++◌}
 use mathlib.Core.Option.{some}
 use lib.Dec.{eqb, leb}
 use lib.ListN.{length, get_or, take, drop, length-drop, drop_of_length-le}
@@ -22,7 +22,6 @@ use Rattle.words.proofs.TestParts.{and-true, and-false}
 use Rattle.words.specs.Base.{all_of, is_nil, place_from}
 use Rattle.library.specs.Library.{purged}
 use Rattle.library.specs.Check.{is_last_word, used, ok_byte}
-use Rattle.library.specs.declared.Found.TheVariants.{At, Nothing}
 use Rattle.library_tables.specs.Found.{found, Sized}
 use Rattle.library_cards.specs.Found.{text_if, text_found}
 use Rattle.library.specs.WordForm.{ok_number, ok_numbers, bytes_in, ok_full, ok_last, ok_further, first_tests, word_tests}
@@ -129,30 +128,27 @@ module _ (directory : List ℕ) where
               let z : 0 < a % 2 ^ 16 = number-above n a h f in
               ap (λ (l : List ℕ). not (is_nil l) && ok_numbers directory n l) (used-is n a xs (λ q. omega arith)) ∙ bytes_on n a (used xs) f
 
-  module _ (n : ℕ) (ws : List ℕ) (i : ℕ) where
-    further-is : i < length ws → (z : Bool) → is_nil (drop (suc i) ws) ≡ z
-        → ok_further directory n (drop i ws) ≡ (if z then ok_last directory n (get_or ws i 0) else (ok_full directory n (get_or ws i 0) && ok_further directory (get_or ws i 0 % 2 ^ 16) (drop (suc i) ws)))
-    further-is h z e =
-        ap (ok_further directory n) (drop-cons ws i 0 h)
-        ∙ ap (λ (t : Bool). if t then ok_last directory n (get_or ws i 0) else (ok_full directory n (get_or ws i 0) && ok_further directory (get_or ws i 0 % 2 ^ 16) (drop (suc i) ws))) e
+  -- further history words of which one is the last
+  module _ (n last : ℕ) where
+    pub further-last : (full : List ℕ) (i : ℕ) → length full ≤ i → ok_further directory n (drop i full ++ (last ∷ [])) ≡ ok_last directory n last
+    further-last full i h = ap (λ (l : List ℕ). ok_further directory n (l ++ (last ∷ []))) (drop_of_length-le full h)
 
-    pub further-last : i < length ws → i + 1 ≡ length ws → ok_further directory n (drop i ws) ≡ ok_last directory n (get_or ws i 0)
-    further-last h e = let z : length ws ≤ suc i = omega arith in further-is h true (ap is_nil (drop_of_length-le ws z))
+    further-is : (w : ℕ) (l : List ℕ) → ok_further directory n (w ∷ l ++ (last ∷ [])) ≡ (ok_full directory n w && ok_further directory (w % 2 ^ 16) (l ++ (last ∷ [])))
+    further-is w [] = refl
+    further-is w (x ∷ l) = refl
 
-    module _ (more : i + 1 < length ws) where
-      goes_on : is_nil (drop (suc i) ws) ≡ false
-      goes_on = let z : suc i < length ws = omega arith in ap is_nil (drop-cons ws (suc i) 0 z)
+    module _ (full : List ℕ) (i : ℕ) (h : i < length full) where
+      further-here : ok_further directory n (drop i full ++ (last ∷ []))
+          ≡ (ok_full directory n (get_or full i 0) && ok_further directory (get_or full i 0 % 2 ^ 16) (drop (suc i) full ++ (last ∷ [])))
+      further-here = ap (λ (l : List ℕ). ok_further directory n (l ++ (last ∷ []))) (drop-cons full i 0 h) ∙ further-is (get_or full i 0) (drop (suc i) full)
 
-      pub further-fail : ok_full directory n (get_or ws i 0) ≡ false → ok_further directory n (drop i ws) ≡ false
-      further-fail e = further-is (omega arith) false goes_on ∙ ap (λ (t : Bool). t && ok_further directory (get_or ws i 0 % 2 ^ 16) (drop (suc i) ws)) e
+      pub further-fail : ok_full directory n (get_or full i 0) ≡ false → ok_further directory n (drop i full ++ (last ∷ [])) ≡ false
+      further-fail e = further-here ∙ ap (λ (t : Bool). t && ok_further directory (get_or full i 0 % 2 ^ 16) (drop (suc i) full ++ (last ∷ []))) e
 
-      pub further-on : ok_full directory n (get_or ws i 0) ≡ true → ok_further directory n (drop i ws) ≡ ok_further directory (get_or ws i 0 % 2 ^ 16) (drop (i + 1) ws)
+      pub further-on : ok_full directory n (get_or full i 0) ≡ true → ok_further directory n (drop i full ++ (last ∷ [])) ≡ ok_further directory (get_or full i 0 % 2 ^ 16) (drop (i + 1) full ++ (last ∷ []))
       further-on e =
-          further-is (omega arith) false goes_on ∙ ap (λ (t : Bool). t && ok_further directory (get_or ws i 0 % 2 ^ 16) (drop (suc i) ws)) e
-          ∙ ap (λ (k : ℕ). ok_further directory (get_or ws i 0 % 2 ^ 16) (drop k ws)) (sym (add-one i))
-
-    pub further-end : length ws ≤ i → ok_further directory n (drop i ws) ≡ true
-    further-end h = ap (ok_further directory n) (drop_of_length-le ws h)
+          further-here ∙ ap (λ (t : Bool). t && ok_further directory (get_or full i 0 % 2 ^ 16) (drop (suc i) full ++ (last ∷ []))) e
+          ∙ ap (λ (k : ℕ). ok_further directory (get_or full i 0 % 2 ^ 16) (drop k full ++ (last ∷ []))) (sym (add-one i))
 
 -- the tests of a card's words, in terms of the image
 module _ (directory ws : List ℕ) (at k : ℕ) (some : 0 < k) (inside : at + k ≤ length ws) where
@@ -218,25 +214,25 @@ module _ (directory ws : List ℕ) (at : ℕ) (inside : at < length ws) where
       ∙ ap (λ (m : ℕ). all_of (first_tests directory v) && (ok_further directory (v % 2 ^ 16) (take m (drop (at + 1) ws)) && true)) n
       ∙ and-true (all_of (first_tests directory v))
 
-  pub single-place : 2 ^ 59 ≤ v → found (place_from is_last_word 1 (drop at ws)) ≡ At 1
+  pub single-place : 2 ^ 59 ≤ v → found (place_from is_last_word 1 (drop at ws)) ≡ Some 1
   single-place h = ap found (place_here is_last_word 1 ws at inside (le-leb (2 ^ 59) v h))
 
 -- where the text starts of the card at a place
 module _ (directory ws : List ℕ) (at : ℕ) where
-  pub text-none : found (place_from is_last_word 1 (drop at ws)) ≡ Nothing → Nothing ≡ text_found directory ws at
+  pub text-none : found (place_from is_last_word 1 (drop at ws)) ≡ None → None ≡ text_found directory ws at
   unfolding text_found
   text-none e = sym (ap (text_if directory ws at) (found_none (place_from is_last_word 1 (drop at ws)) e))
 
-  module _ (s : Sized ws) (k : ℕ) (e : found (place_from is_last_word 1 (drop at ws)) ≡ At k) (b : Bool) (is : b ≡ all_of (word_tests directory (drop at ws) k)) where
-    text-some : text_found directory ws at ≡ (if b then At (at + k) else Nothing)
+  module _ (s : Sized ws) (k : ℕ) (e : found (place_from is_last_word 1 (drop at ws)) ≡ Some k) (b : Bool) (is : b ≡ all_of (word_tests directory (drop at ws) k)) where
+    text-some : text_found directory ws at ≡ (if b then Some (at + k) else None)
     unfolding text_found
     text-some =
         let p : place_from is_last_word 1 (drop at ws) ≡ some k = found_some (place_from is_last_word 1 (drop at ws)) k e in
         ap (text_if directory ws at) p
-        ∙ ap (λ (t : Bool). if t then At (at + k) else Nothing) (form-words directory (drop at ws) k (λ i. subst (λ (v : ℕ). v < 2 ^ 60) (sym (get_or-drop at ws i 0)) (s.words (at + i))) p ∙ sym is)
+        ∙ ap (λ (t : Bool). if t then Some (at + k) else None) (form-words directory (drop at ws) k (λ i. subst (λ (v : ℕ). v < 2 ^ 60) (sym (get_or-drop at ws i 0)) (s.words (at + i))) p ∙ sym is)
 
-    pub text-there : b ≡ true → At (at + k) ≡ text_found directory ws at
-    text-there q = sym (text-some ∙ ap (λ (t : Bool). if t then At (at + k) else Nothing) q)
+    pub text-there : b ≡ true → Some (at + k) ≡ text_found directory ws at
+    text-there q = sym (text-some ∙ ap (λ (t : Bool). if t then Some (at + k) else None) q)
 
-    pub text-not : b ≡ false → Nothing ≡ text_found directory ws at
-    text-not q = sym (text-some ∙ ap (λ (t : Bool). if t then At (at + k) else Nothing) q)
+    pub text-not : b ≡ false → None ≡ text_found directory ws at
+    text-not q = sym (text-some ∙ ap (λ (t : Bool). if t then Some (at + k) else None) q)

@@ -1,5 +1,6 @@
 // Rows 5 and 6: cards one after the other.
-ghost use Rattle.std.specs.Prelude.{◌≡◌, true, ◌+◌, ◌-◌, ◌/◌, ◌%◌, ◌^◌, ◌≤◌, ◌<◌, length, drop};
+ghost use Rattle.std.specs.Prelude.{◌≡◌, true, IfSome, ◌+◌, ◌-◌, ◌/◌, ◌%◌, ◌^◌, ◌≤◌, ◌<◌, length, drop};
+ghost use Rattle.std.specs.List.{position_from};
 ghost use Rattle.words.specs.Base.{all_of, place_from};
 ghost use Rattle.library.specs.Check.{is_last_word};
 ghost use Rattle.library_tables.specs.Found.{found, Sized, Tabled};
@@ -14,15 +15,21 @@ use library::{
 const LAST_ALONE: u64 = 0o40;
 
 const ZEROS: u64 = 0o20;
+// Where the first word with bit 59 stands.
+fn last_word(words: &[u64]) -> Option<usize>
+    ensures value { result ≡ position_from is_last_word 0 words.now }
+    ensures upper_bound { IfSome result (λ i. i < length words.now) }
+{
+    words.iter().position(|w| LAST <= *w)
+}
+
 // How many words stand ahead of a card's text: those up to the first with bit 59.
 fn heads_of(image: &[u64], at: usize) -> Option<usize>
     requires { at ≤ length image.now }
     ensures { result ≡ found (place_from is_last_word 1 (drop at image.now)) }
 {
-    match image[at..].iter().position(|w| LAST <= *w) {
-        Some(i) => Some(i + 1),
-        None => None,
-    }
+    let i = last_word(&image[at..])?;
+    Some(i + 1)
 }
 
 // A byte's number is not below `least`, and is that of an entry that is not purged.
@@ -93,20 +100,17 @@ fn history_ok(directory: &[u64], words: &[u64], owner: u64) -> bool
     requires { 0 < owner }
     ensures { result ≡ ok_further directory.now owner words.now }
 {
+    let Some((last, full)) = words.split_last() else {
+        return true;
+    };
     let mut least = owner;
-    let mut i = 0;
-    while i < words.len() {
-        let w = words[i];
-        i += 1;
-        if i == words.len() {
-            return last_ok(directory, least, w);
-        }
-        if !full_ok(directory, least, w) {
+    for w in full {
+        if !full_ok(directory, least, *w) {
             return false;
         }
-        least = w % NUMBER;
+        least = *w % NUMBER;
     }
-    true
+    last_ok(directory, least, *last)
 }
 
 fn first_ok(directory: &[u64], w: u64) -> bool

@@ -1,50 +1,49 @@
-use Prim.Native.Nat.{◌-◌}
-use mathlib.Core.Path.{refl, sym, ◌∙◌}
+use Rattle.std.specs.Prelude.{Option, None, Some}
+use Prim.Native.Nat.{ℕ, ◌-◌}
+use mathlib.Core.Path.{◌≡◌, refl, sym, ◌∙◌}
 use native.Mathlib.Omega.{arith}
 use Rattle.library_cards.proofs.CardsLeft.{begun, ended, turn_many, turn-form, turn-text, turn_on, cards-end}
 use borrow.Author.Rules.{rules}
 use Rattle.library_cards.proofs.cards.cards_from.Goals as goal
 
-pub loop-at-init : goal.loop-at-init
-loop-at-init c = (search rules, (search rules, refl))
+none_is : (o : Option ℕ) → ((p : ℕ) → o ≡ Some p → ⊥) → o ≡ None
+none_is None h = refl
+none_is (Some p) h = absurd (h p refl)
 
 pub returns-then-n-eq-MOST_CARDS : goal.returns-then-n-eq-MOST_CARDS
 returns-then-n-eq-MOST_CARDS c =
     let l = c.loop-at in
     sym (l.invariant.1.1 ∙ turn_many _ c.args.image.now l.at l.n (omega arith) c.if-n-eq-MOST_CARDS.true)
 
-pub returns-in-Nothing : goal.returns-in-Nothing
-returns-in-Nothing c =
+pub returns-in_default : goal.returns-in_default
+returns-in_default c =
     let l = c.loop-at in
-    sym (l.invariant.1.1 ∙ turn-form _ c.args.image.now l.at l.n (omega arith) (omega arith) (sym c.text_of.ensures ∙ c.in-Nothing.is))
+    sym (l.invariant.1.1 ∙ turn-form _ c.args.image.now l.at l.n (omega arith) (omega arith) (sym c.text_of.ensures ∙ none_is c.text_of.result c.in_default.not-Some))
 
-pub end_of-requires : goal.end_of-requires
-end_of-requires c =
+pub end_of-requires-clause-at_in_bounds_2 : goal.end_of-requires-clause-at_in_bounds_2
+end_of-requires-clause-at_in_bounds_2 c = (begun _ c.args.image.now c.loop-at.at _ (omega arith) (sym c.text_of.ensures ∙ c.in-Some.is)).within
+
+pub returns-in_default-end_of : goal.returns-in_default-end_of
+returns-in_default-end_of c =
     let l = c.loop-at in
     let ws = c.args.image.now in
-    let b = begun _ ws l.at _ (omega arith) (sym c.text_of.ensures ∙ c.in-At.is) in record { sized = c.requires.sized; at_in_bounds = omega arith; at_in_bounds_2 = b.within }
-
-pub returns-in-Nothing-end_of : goal.returns-in-Nothing-end_of
-returns-in-Nothing-end_of c =
-    let l = c.loop-at in
-    let ws = c.args.image.now in
-    let b = begun _ ws l.at _ (omega arith) (sym c.text_of.ensures ∙ c.in-At.is) in
-    sym (l.invariant.1.1 ∙ turn-text _ ws l.at l.n (omega arith) (omega arith) _ b (sym c.end_of.ensures ∙ c.in-Nothing-end_of.is))
+    let b = begun _ ws l.at _ (omega arith) (sym c.text_of.ensures ∙ c.in-Some.is) in
+    sym (l.invariant.1.1 ∙ turn-text _ ws l.at l.n (omega arith) (omega arith) _ b (sym c.end_of.ensures ∙ none_is c.end_of.result c.in_default-end_of.not-Some))
 
 pub loop-at-smaller : goal.loop-at-smaller
 loop-at-smaller c =
     let l = c.loop-at in
     let ws = c.args.image.now in
-    let b = begun _ ws l.at _ (omega arith) (sym c.text_of.ensures ∙ c.in-At.is) in
-    let d = ended ws l.at _ _ (sym c.end_of.ensures ∙ c.in-At-end_of.is) in
+    let b = begun _ ws l.at _ (omega arith) (sym c.text_of.ensures ∙ c.in-Some.is) in
+    let d = ended ws l.at _ _ (sym c.end_of.ensures ∙ c.in-Some-end_of.is) in
     omega arith
 
 pub loop-at-preserved : goal.loop-at-preserved
 loop-at-preserved c =
     let l = c.loop-at in
     let ws = c.args.image.now in
-    let b = begun _ ws l.at _ (omega arith) (sym c.text_of.ensures ∙ c.in-At.is) in
-    let d = ended ws l.at _ _ (sym c.end_of.ensures ∙ c.in-At-end_of.is) in
+    let b = begun _ ws l.at _ (omega arith) (sym c.text_of.ensures ∙ c.in-Some.is) in
+    let d = ended ws l.at _ _ (sym c.end_of.ensures ∙ c.in-Some-end_of.is) in
     (omega arith, (omega arith, l.invariant.1.1 ∙ turn_on _ ws l.at l.n (omega arith) (omega arith) _ b _ d))
 
 pub returns : goal.returns

@@ -19,25 +19,19 @@ returns-then-image-at-ge-LAST c =
 pub words_ok-requires : goal.words_ok-requires
 words_ok-requires c =
     let a = c.args in
-    heads-within a.image.now a.at _ (search rules) (sym c.heads_of.ensures ∙ c.in-At.is)
-
-pub overflow_add-result-then-words_ok : goal.overflow_add-result-then-words_ok
-overflow_add-result-then-words_ok c =
-    let a = c.args in
-    let w = heads-within a.image.now a.at _ (search rules) (sym c.heads_of.ensures ∙ c.in-At.is) in
-    omega arith
+    heads-within a.image.now a.at _ (search rules) (sym c.heads_of.ensures ∙ c.in_ok-k.was)
 
 pub returns-then-words_ok : goal.returns-then-words_ok
 returns-then-words_ok c =
     let a = c.args in
-    text-there a.directory.now a.image.now a.at c.requires.sized _ (sym c.heads_of.ensures ∙ c.in-At.is) _ c.words_ok.ensures c.if-words_ok.true
+    text-there a.directory.now a.image.now a.at c.requires.sized _ (sym c.heads_of.ensures ∙ c.in_ok-k.was) _ c.words_ok.ensures c.if-words_ok.true
 
-pub returns-else-words_ok : goal.returns-else-words_ok
-returns-else-words_ok c =
+pub returns : goal.returns
+returns c =
     let a = c.args in
-    text-not a.directory.now a.image.now a.at c.requires.sized _ (sym c.heads_of.ensures ∙ c.in-At.is) _ c.words_ok.ensures c.if-words_ok.false
+    text-not a.directory.now a.image.now a.at c.requires.sized _ (sym c.heads_of.ensures ∙ c.in_ok-k.was) _ c.words_ok.ensures c.if-words_ok.false
 
-pub returns-in-Nothing : goal.returns-in-Nothing
-returns-in-Nothing c =
+pub returns-in_err-k : goal.returns-in_err-k
+returns-in_err-k c =
     let a = c.args in
-    text-none a.directory.now a.image.now a.at (sym c.heads_of.ensures ∙ c.in-Nothing.is)
+    search rules ∙ text-none a.directory.now a.image.now a.at (sym c.heads_of.ensures ∙ c.in_err-k.was)
