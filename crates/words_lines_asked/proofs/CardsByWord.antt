@@ -1,14 +1,14 @@
 -- Cards by the words and numbers that are read of them: a number is 0 where there is no card. Assumes nothing.
 --   a number is 0 where there is none              is-number, no_number, number_read_lem
---   a card's number                                card-both, card-nameless, card-numberless, is-card, no-card, card-read
---   an empty parameter                             empty, full
-use Rattle.std.specs.Prelude.{if◌then◌else◌}
-use mathlib.Core.Path.{◌≡◌, refl}
-use mathlib.Core.Bool.{Bool, true, false, ◌&&◌}
+--   a card's name and number                       card-both, card-nameless, card-numberless
+--   an empty parameter, and one that is no name    full, named
+use Rattle.std.specs.Prelude.{Some, None}
+use mathlib.Core.Path.{◌≡◌, refl, sym}
+use mathlib.Core.Bool.{Bool, true, false, ◌&&◌, not}
 use mathlib.Core.List.{List, [], ◌∷◌}
-use Prim.Native.Nat.{ℕ, ◌<◌}
+use Prim.Native.Nat.{ℕ, suc, ◌<◌}
 use native.Mathlib.Omega.{arith}
-use borrow.Author.Tests.{ltb-true}
+use borrow.Author.Tests.{ltb-true, eqb-true, eqb-false, ne_eqb}
 use lib.Dec.{eqb, leb}
 use lib.ListN.{length}
 use Rattle.words.specs.Base.{all, take_until, beyond}
@@ -38,52 +38,32 @@ module _ (ds : List ℕ) where
 
 module _ (p : List ℕ) where
   pub card-both : (word_of_name (take_until (eqb point) p) ≡ 0 → ⊥) → (number_read (beyond (eqb point) p) ≡ 0 → ⊥)
-      → record { name = word_of_name (take_until (eqb point) p); seq = number_read (beyond (eqb point) p) } ≡ card_read p
+      → Some (record { name = word_of_name (take_until (eqb point) p); seq = number_read (beyond (eqb point) p) }) ≡ card_read p
   unfolding card_read is_card card_named
   card-both named numbered =
       let a : is_name (take_until (eqb point) p) ≡ true = is_name_lem _ named in
       let b : is_number (beyond (eqb point) p) ≡ true = is-number _ numbered in
       rw (name-word _ a, number_read_lem _ b, a, b)
 
-  pub card-nameless : word_of_name (take_until (eqb point) p) ≡ 0 → record { name = 0; seq = 0 } ≡ card_read p
+  pub card-nameless : word_of_name (take_until (eqb point) p) ≡ 0 → None ≡ card_read p
   unfolding card_read is_card
   card-nameless none = rw (no_name _ none)
 
-  pub card-numberless : number_read (beyond (eqb point) p) ≡ 0 → record { name = 0; seq = 0 } ≡ card_read p
+  pub card-numberless : number_read (beyond (eqb point) p) ≡ 0 → None ≡ card_read p
   unfolding card_read is_card
   card-numberless none = rw (no_number _ none, and-false)
 
-  pub is-card : ((card_read p).seq ≡ 0 → ⊥) → is_card p ≡ true
-  unfolding card_read
-  is-card = by-test (is_card p)
-    where
-      by-test : (t : Bool) → ((if t then card_named p else record { name = 0; seq = 0 }).seq ≡ 0 → ⊥) → t ≡ true
-      by-test true other = refl
-      by-test false other = absurd (other refl)
+-- AN EMPTY PARAMETER, AND ONE THAT IS NO NAME
+pub full : (p : List ℕ) → not (eqb (length p) 0) ≡ not_empty p
+full [] = refl
+full (x ∷ xs) = some (length xs)
+  where
+    some : (n : ℕ) → not (eqb (suc n) 0) ≡ true
+    some n = rw (ne_eqb (suc n) 0 (λ (e : suc n ≡ 0). omega arith))
 
-  pub no-card : (card_read p).seq ≡ 0 → is_card p ≡ false
-  unfolding card_read is_card card_named
-  no-card = by-test (is_card p) (λ e. number-positive (beyond (eqb point) p) (and_right (is_name (take_until (eqb point) p)) _ e))
-    where
-      by-test : (t : Bool) → (t ≡ true → 0 < (card_named p).seq) → (if t then card_named p else record { name = 0; seq = 0 }).seq ≡ 0 → t ≡ false
-      by-test true high e = absurd (omega (arith, high refl))
-      by-test false high e = refl
-
-  pub card-read : is_card p ≡ true → card_read p ≡ card_named p
-  unfolding card_read
-  card-read is = rw is
-
-module _ (p : List ℕ) where
-  pub empty : length p ≡ 0 → not_empty p ≡ false
-  empty = by-list p
-    where
-      by-list : (p : List ℕ) → length p ≡ 0 → not_empty p ≡ false
-      by-list [] e = refl
-      by-list (x ∷ xs) e = absurd (omega arith)
-
-  pub full : (length p ≡ 0 → ⊥) → not_empty p ≡ true
-  full = by-list p
-    where
-      by-list : (p : List ℕ) → (length p ≡ 0 → ⊥) → not_empty p ≡ true
-      by-list [] other = absurd (other refl)
-      by-list (x ∷ xs) other = refl
+pub named : (p : List ℕ) → not (eqb (word_of_name p) 0) ≡ is_name p
+named p = by-test (eqb (word_of_name p) 0) refl
+  where
+    by-test : (t : Bool) → eqb (word_of_name p) 0 ≡ t → not t ≡ is_name p
+    by-test true e = sym (no_name p (eqb-true _ _ e))
+    by-test false e = sym (is_name_lem p (eqb-false _ _ e))

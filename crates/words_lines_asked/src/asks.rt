@@ -1,79 +1,48 @@
 // What a line asks (RULES, "Lines", "Directives"; rows 20 to 23).
-ghost use Rattle.std.specs.Prelude.{◌≡◌, true};
+ghost use Rattle.std.specs.Prelude.{◌≡◌, true, ℕ, ◌^◌, ◌<◌};
 ghost use Rattle.words_lines.specs.Directive.{one_name, one_card, range, asks, asked, directive, line_number};
-ghost use Rattle.words_lines.specs.declared.Line.TheVariants.{Deck, Comdeck, Ident, Insert, Before, Delete, Restore, Malformed, NotCarried};
+ghost use Rattle.words_lines.specs.declared.CardName.{CardName};
+ghost use Rattle.words_lines.specs.declared.Line.{Line};
 
-use crate::names::{NameField, Range, all_names, card_of, name_field, range_of};
-use words_lines::{Kind, Line};
+use crate::names::{all_names, card_of, none_empty, range_of};
+use words_lines::{CardName, Kind, Line, Stop, part_at};
 
 const COLUMNS: usize = 80;
 
-// A second parameter is row 22 here, and row 23 for COMDECK and IDENT.
-fn deck(field: &[u8]) -> Line
-    ensures { result ≡ one_name Deck Malformed field.now }
+// One name; where more parameters follow it, `more`.
+fn one_name<F: FnOnce(u64) -> Line>(field: &[u8], ask: F, more: Line) -> Line
+    requires { F.IsAlwaysCallable ask }
+    ensures { (says : ℕ → Line) → ((w : ℕ) (r : Line) → w < 2 ^ 64 → F.post ask w r → r ≡ says w) → result ≡ one_name says more field.now }
 {
-    match name_field(field) {
-        NameField::One(w) => Line::Deck(w),
-        NameField::More => Line::Malformed,
-        NameField::No => Line::Malformed,
+    let word = words_names::word_of_name(field);
+    if word != 0 {
+        return ask(word);
+    }
+    let first = words_names::word_of_name(part_at(field, 0, Stop::Parameter));
+    if first != 0 && none_empty(field) {
+        return more;
+    }
+    Line::Malformed
+}
+
+fn one_card<F: FnOnce(CardName) -> Line>(field: &[u8], ask: F) -> Line
+    requires { F.IsAlwaysCallable ask }
+    ensures { (says : CardName → Line) → ((a : CardName) (r : Line) → F.post ask a r → r ≡ says a) → result ≡ one_card says field.now }
+{
+    match card_of(field) {
+        Some(card) => ask(card),
+        None => Line::Malformed,
     }
 }
 
-fn comdeck(field: &[u8]) -> Line
-    ensures { result ≡ one_name Comdeck NotCarried field.now }
-{
-    match name_field(field) {
-        NameField::One(w) => Line::Comdeck(w),
-        NameField::More => Line::NotCarried,
-        NameField::No => Line::Malformed,
-    }
-}
-
-fn ident(field: &[u8]) -> Line
-    ensures { result ≡ one_name Ident NotCarried field.now }
-{
-    match name_field(field) {
-        NameField::One(w) => Line::Ident(w),
-        NameField::More => Line::NotCarried,
-        NameField::No => Line::Malformed,
-    }
-}
-
-fn insert(field: &[u8]) -> Line
-    ensures { result ≡ one_card Insert field.now }
-{
-    let card = card_of(field);
-    if card.seq == 0 {
-        return Line::Malformed;
-    }
-    Line::Insert(card)
-}
-
-fn before(field: &[u8]) -> Line
-    ensures { result ≡ one_card Before field.now }
-{
-    let card = card_of(field);
-    if card.seq == 0 {
-        return Line::Malformed;
-    }
-    Line::Before(card)
-}
-
-fn delete(field: &[u8]) -> Line
-    ensures { result ≡ range Delete field.now }
+// One card, or two.
+fn range<F: FnOnce(CardName, CardName) -> Line>(field: &[u8], ask: F) -> Line
+    requires { F.IsAlwaysCallable ask }
+    ensures { (says : CardName → CardName → Line) → ((a b : CardName) (r : Line) → F.post ask a b r → r ≡ says a b) → result ≡ range says field.now }
 {
     match range_of(field) {
-        Range::Of(first, last) => Line::Delete(first, last),
-        Range::No => Line::Malformed,
-    }
-}
-
-fn restore(field: &[u8]) -> Line
-    ensures { result ≡ range Restore field.now }
-{
-    match range_of(field) {
-        Range::Of(first, last) => Line::Restore(first, last),
-        Range::No => Line::Malformed,
+        Some((first, last)) => ask(first, last),
+        None => Line::Malformed,
     }
 }
 
@@ -84,13 +53,14 @@ fn asks_of(kind: Kind, field: &[u8]) -> Line
         Kind::Text => Line::Text,
         Kind::Skipped => Line::Skipped,
         Kind::NotCarried => Line::NotCarried,
-        Kind::Deck => deck(field),
-        Kind::Comdeck => comdeck(field),
-        Kind::Ident => ident(field),
-        Kind::Insert => insert(field),
-        Kind::Before => before(field),
-        Kind::Delete => delete(field),
-        Kind::Restore => restore(field),
+        // a second parameter is row 22 here, and row 23 for COMDECK and IDENT
+        Kind::Deck => one_name(field, Line::Deck, Line::Malformed),
+        Kind::Comdeck => one_name(field, Line::Comdeck, Line::NotCarried),
+        Kind::Ident => one_name(field, Line::Ident, Line::NotCarried),
+        Kind::Insert => one_card(field, Line::Insert),
+        Kind::Before => one_card(field, Line::Before),
+        Kind::Delete => range(field, Line::Delete),
+        Kind::Restore => range(field, Line::Restore),
         Kind::Yank => {
             if all_names(field) {
                 Line::Yank
@@ -112,6 +82,7 @@ fn asked_of(line: &[u8]) -> Line
     asks_of(kind, b"")
 }
 
+#[tactic(auto, unfolding(words_lines::specs::Directive::directive))]
 pub fn directive(line: &[u8]) -> Line
     ensures { result ≡ directive line.now }
 {

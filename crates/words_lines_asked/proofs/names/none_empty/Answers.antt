@@ -1,32 +1,19 @@
-use mathlib.Core.Path.{refl, sym, ◌∙◌}
-use native.Mathlib.Omega.{arith}
+-- The parameters are the parts between commas.
+use Rattle.std.proofs.Common.{rules, tests, eqb, not, length, refl, ◌∙◌}
+use Rattle.std.proofs.lemmas.Iterator.Search.{all_from_yields_List}
+use Rattle.std.proofs.lemmas.Iterator.Splits.{YieldsList-from_slice_split}
+use Rattle.std.specs.List.{slice_split}
 use Rattle.words_lines.specs.Directive.{is_comma}
+use Rattle.words_lines.proofs.SplitList.{all-list, split-slice}
 use Rattle.words_lines_asked.specs.Parameters.{not_empty}
-use Rattle.words_lines.proofs.SplitList.{part-fits, all_none, all-next, all-not}
-use Rattle.words_lines_asked.proofs.CardsByWord.{full, empty}
-use borrow.Author.Rules.{rules}
+use Rattle.words_lines_asked.proofs.CardsByWord.{full}
 use Rattle.words_lines_asked.proofs.names.none_empty.Goals as goal
-
-pub loop-at-init : goal.loop-at-init
-loop-at-init c = (search rules, refl)
-
-pub returns-then-p-eq0 : goal.returns-then-p-eq0
-returns-then-p-eq0 c =
-    let l = c.loop-at in
-    let f = c.args.field.now in
-    let p = c.part_at-p in
-    sym (l.invariant.1 ∙ all-not is_comma l.at f (search rules) p.result.now p.ensures not_empty (empty p.result.now c.if-p-eq0.true))
-
-pub loop-at-preserved : goal.loop-at-preserved
-loop-at-preserved c =
-    let l = c.loop-at in
-    let f = c.args.field.now in
-    let p = c.part_at-p in
-    let fits = part-fits is_comma l.at f (search rules) p.result.now p.ensures in
-    let next = all-next is_comma l.at f (search rules) p.result.now p.ensures not_empty (full p.result.now c.if-p-eq0.false) in
-    (omega (arith, fits), l.invariant.1 ∙ next)
 
 pub returns : goal.returns
 returns c =
-    let l = c.loop-at in
-    sym (l.invariant.1 ∙ all_none is_comma l.at c.args.field.now (search rules) not_empty)
+    let s = c.split.ensures in
+    all_from_yields_List (λ p. not (eqb (length p) 0)) _ _ _ c.all.ensures.ran
+    (YieldsList-from_slice_split _ is_comma c.args.field.now s.rest s.done s.closure (λ x b q k. search (rules, tests)))
+    (λ x b q k. search (rules, tests))
+    ∙ all-list (λ p. not (eqb (length p) 0)) not_empty full (slice_split is_comma c.args.field.now)
+    ∙ rw (split-slice is_comma is_comma (λ b. refl) c.args.field.now)
