@@ -1,5 +1,7 @@
 -- Numbers as bytes, highest first and lowest first: what is written is read again.
 pub mod NumberBytes
+-- Words that stand as eight bytes each: the one at a place, one put there, and the bytes of all.
+pub mod EightsWords
 -- What is written of a space so far and what is still to come make the whole, and the rest is as it was.
 pub mod WrittenSoFar
 -- What packing answers and what the space then holds, one law for each way out of the code.

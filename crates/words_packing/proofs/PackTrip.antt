@@ -13,12 +13,13 @@ use lib.Dec.{eqb}
 use lib.ListN.{length, get_or, take, drop, length-append, length-drop, take-append-drop}
 use lib.Seq.{length-take-le, take_at, drop_at, get_or-drop, get_or-append-add}
 use borrow.Author.Tests.{eqb-true, le-leb}
-use Rattle.words_packing.specs.Pack.{bytes_of, number_of, low_bytes, packed, packed_length, packing, is_packed_length, has_tail, unpacked_pairs, unpacked, unpacked_length, unpacking, eights, words_from, words_of_eights}
-use Rattle.words_packing.specs.declared.Packing.TheVariants.{Done}
+use Rattle.words_packing.specs.Pack.{bytes_of, number_of, low_bytes, packed, packed_length, packing, is_packed_length, has_tail, unpacked_pairs, unpacked, unpacked_length, unpacking, eights, words_of_eights}
+use Rattle.std.specs.Prelude.{Ok}
 use Rattle.words_packing.specs.PackTrip.{UnpackPacked, PackUnpacked, PackedAccepted, UnpackedAccepted, PackedLength, UnpackedLength, WordsEights, EightsWords}
-use Rattle.words_packing.proofs.NumberBytes.{Below, all-below, below_all, below-take, below-drop, number-div, number-bytes, bytes-number, low-number, low-eight}
+use Rattle.words_packing.proofs.NumberBytes.{Below, all-below, below_all, below-take, below-drop, number-div, number-bytes, bytes-number, low-number}
 use Rattle.words_packing.proofs.PackAnswer.{accepted, answer-whole, answer-last}
 use Rattle.words_packing.proofs.PackedPair.{number-eight, eights-more}
+use Rattle.words_packing.proofs.EightsWords.{eights-back}
 
 -- HOW LONG
 pub packed-length : PackedLength
@@ -149,7 +150,7 @@ ends-packed (a ∷ b ∷ ws) =
     let k : length (a ∷ b ∷ ws) / 2 ≡ suc (length ws / 2) = omega arith in
     rw k (ends_more (length ws / 2) (bytes_of 15 (a * 2 ^ 60 + b)) (packed ws) refl (ends-packed ws))
 
-ends-accepted : (k : ℕ) (bs : List ℕ) (room : ℕ) → Ends k bs → unpacked_length (length bs) ≤ room → Done (unpacked_length (length bs)) ≡ unpacking bs room
+ends-accepted : (k : ℕ) (bs : List ℕ) (room : ℕ) → Ends k bs → unpacked_length (length bs) ≤ room → Ok (unpacked_length (length bs)) ≡ unpacking bs room
 ends-accepted k bs room (ends-whole l) h = answer-whole bs room (rw l (mul-mod_right 15 k)) h
 ends-accepted k bs room (ends-eight l z) h = answer-last bs room (rw l (mul-add-mod_self_left 15 k 8)) h z
 
@@ -189,14 +190,6 @@ words_back (w ∷ ws) h =
 
 pub words-eights : WordsEights
 words-eights ws h = words_back ws (all-below (2 ^ 64) ws h)
-
-eights-back : (k : ℕ) (bs : List ℕ) → Below 256 bs → length bs ≡ 8 * k → eights (words_from k bs) ≡ bs
-eights-back zero [] h l = refl
-eights-back zero (b ∷ bs) h l = absurd (omega arith)
-eights-back (suc k) bs h l =
-    let front = low-eight bs h (omega arith) in
-    let rest : eights (words_from k (drop 8 bs)) ≡ drop 8 bs = eights-back k (drop 8 bs) (below-drop 256 8 bs h) (rw length-drop (omega arith)) in
-    (λ i. front i ++ rest i) ∙ take-append-drop 8 bs
 
 pub eights-words : EightsWords
 eights-words bs h m = eights-back (length bs / 8) bs (all-below 256 bs h) (omega arith)

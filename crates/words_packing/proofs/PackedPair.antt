@@ -1,7 +1,7 @@
 -- Each turn of packing writes what the next two words say, and the rest is packed alike.
 --   two words             number-eight, pair-bytes, put-pair
 --   packing               pack-more, pack-last, pack-end, two_at, one_at
---   words as eight bytes  eights-more, eights-none, eights_at, eights-end, two-eights, one-eight
+--   words as eight bytes  eights-more
 --   every word tested     all_more, all-fails
 use mathlib.Core.Path.{◌≡◌, refl, sym, ap, ◌∙◌}
 use mathlib.Core.Bool.{false}
@@ -11,7 +11,7 @@ use native.Mathlib.Nat.{div-eq_of_lt}
 use native.Mathlib.Numerals.{add-one, add-two}
 use native.Mathlib.Omega.{arith}
 use lib.ListN.{length, get_or, take, drop, length-drop, drop_of_length-le}
-use lib.Seq.{length-take-le, drop-append-add, drop-cons, drop-drop}
+use lib.Seq.{length-take-le, drop-append-add, drop-cons}
 use borrow.Author.Tests.{lt-ltb, le-ltb}
 use Rattle.words.specs.Base.{all}
 use Rattle.words_packing.specs.Pack.{bytes_of, number_of, low_number, packed, words_from, words_of_eights}
@@ -78,27 +78,6 @@ pub eights-more : (xs : List ℕ) → 8 ≤ length xs → words_of_eights xs ≡
 eights-more xs h =
     let k : length xs / 8 ≡ suc (length (drop 8 xs) / 8) = rw length-drop (omega arith) in
     ap (λ (n : ℕ). words_from n xs) k
-
-pub eights-none : (xs : List ℕ) → length xs < 8 → words_of_eights xs ≡ []
-eights-none xs h =
-    let k : length xs / 8 ≡ 0 = omega arith in
-    ap (λ (n : ℕ). words_from n xs) k
-
-pub eights_at : (bs : List ℕ) (i : ℕ) → i + 8 ≤ length bs → words_of_eights (drop i bs) ≡ low_number (take 8 (drop i bs)) ∷ words_of_eights (drop (i + 8) bs)
-eights_at bs i h = rw (← drop-drop 8 i bs) (eights-more (drop i bs) (rw length-drop (omega arith)))
-
-pub eights-end : (bs : List ℕ) (i : ℕ) → length bs < i + 8 → words_of_eights (drop i bs) ≡ []
-eights-end bs i h = eights-none (drop i bs) (rw length-drop (omega arith))
-
-pub two-eights : (bs : List ℕ) (i : ℕ) → i + 16 ≤ length bs
-    → words_of_eights (drop i bs) ≡ low_number (take 8 (drop i bs)) ∷ low_number (take 8 (drop (i + 8) bs)) ∷ words_of_eights (drop (i + 16) bs)
-two-eights bs i h =
-    let k : i + 8 + 8 ≡ i + 16 = omega arith in
-    eights_at bs i (omega arith) ∙ ap {B = List ℕ} (λ (r : List ℕ). low_number (take 8 (drop i bs)) ∷ r) (rw k at (eights_at bs (i + 8) (omega arith)))
-
-pub one-eight : (bs : List ℕ) (i : ℕ) → i + 8 ≤ length bs → length bs < i + 16 → words_of_eights (drop i bs) ≡ low_number (take 8 (drop i bs)) ∷ []
-one-eight bs i h g =
-    eights_at bs i h ∙ ap {B = List ℕ} (λ (r : List ℕ). low_number (take 8 (drop i bs)) ∷ r) (eights-end bs (i + 8) (omega arith))
 
 -- THE TEST OF EVERY WORD
 pub all_more : (w : ℕ) (r ws : List ℕ) → ws ≡ w ∷ r → w < 2 ^ 60 → all is_word ws ≡ all is_word r

@@ -1,16 +1,15 @@
 -- Each turn of unpacking writes what the next 15 bytes say, and the rest is unpacked alike.
 --   unpacking             unpacked-pair, unpacked-last, unpacked-none, pair-at, left_over
---   words as eight bytes  put_two
 use mathlib.Core.Path.{◌≡◌, refl, sym, ap, ◌∙◌}
 use mathlib.Core.Bool.{Bool, true, false, ◌||◌}
-use mathlib.Core.List.{List, [], ◌∷◌, ◌++◌}
+use mathlib.Core.List.{List, [], ◌∷◌}
 use Prim.Native.Nat.{ℕ, suc, ◌+◌, ◌*◌, ◌/◌, ◌%◌, ◌^◌, ◌≤◌, ◌<◌}
 use native.Mathlib.Omega.{arith}
 use lib.Dec.{eqb}
-use lib.ListN.{length, take, drop, length-drop, drop_of_length-le}
+use lib.ListN.{length, take, drop, length-drop}
 use lib.Seq.{length-take-le, take-add, take_all, drop-drop}
 use borrow.Author.Tests.{eqb-true}
-use Rattle.words_packing.specs.Pack.{is_packed_length, number_of, low_bytes, unpacked_pairs, unpacked}
+use Rattle.words_packing.specs.Pack.{is_packed_length, number_of, unpacked_pairs, unpacked}
 use Rattle.words_packing.proofs.NumberBytes.{Below, below-take, below-drop, number-join, number-so, number-div}
 
 -- UNPACKING: the first word is in the high eight bytes of 15, the second in the low eight
@@ -63,10 +62,3 @@ left_over n at r m h g = ways (eqb (n % 15) 0) (eqb (n % 15) 8) refl refl r
     ways true b ea eb e = absurd (let z = eqb-true (n % 15) 0 ea in omega arith)
     ways false true ea eb e = let z = eqb-true (n % 15) 8 eb in omega arith
     ways false false ea eb e = absurd (let z : ◌≡◌ {A = ℕ} 0 1 = cc in omega arith)
-
--- WORDS AS EIGHT BYTES: two of them into 16
-pub put_two : (out x y : List ℕ) (a b : ℕ) → length out ≡ 16 → x ≡ low_bytes 8 a → y ≡ low_bytes 8 b
-    → take 8 (x ++ drop 8 out) ++ (y ++ drop 8 (drop 8 (x ++ drop 8 out))) ≡ low_bytes 8 a ++ low_bytes 8 b
-put_two out x y a b h ex ey =
-    let none : drop 8 (drop 8 out) ≡ [] = drop_of_length-le (drop 8 out) {i = 8} (rw length-drop (omega arith)) in
-    rw (ex, ey, none)

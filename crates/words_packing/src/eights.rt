@@ -3,10 +3,9 @@
 ghost use Rattle.std.specs.Prelude.{◌≡◌, [], ◌∷◌, ◌+◌, ◌≤◌, length, get_or, take, drop};
 ghost use Rattle.words_packing.specs.Pack.{bytes_of, number_of, low_bytes, low_number};
 
-// the bytes of a word for C, and of an odd last word packed; those of two words for C
+// the bytes of a word for C, and of an odd last word packed
 pub(crate) const EIGHT: usize = 8;
 
-pub(crate) const TWO: usize = 16;
 // 2^32: what the upper four of eight bytes count
 const HALF: u64 = 4294967296;
 

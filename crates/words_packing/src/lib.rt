@@ -3,6 +3,7 @@
 
 mod eights;
 mod packer;
+mod stands;
 mod unpacker;
 
 pub use packer::{pack, pack_bytes, packing_number, packing_value};

@@ -1,11 +1,12 @@
 // Words packed to bytes (RULES, "Packing"; rows 50 and 53), and the same with each word as eight bytes for C.
 ghost use Rattle.std.specs.Prelude.{◌≡◌, true, ◌++◌, ◌+◌, ◌*◌, ◌/◌, ◌^◌, ◌≤◌, ◌<◌, length, drop};
 ghost use Rattle.words.specs.Base.{all};
-ghost use Rattle.words_packing.specs.Pack.{bytes_of, packed_length, packed, words_of_eights, packing, pack_into, packing_eights, pack_eights_into, packing_number, packing_value};
+ghost use Rattle.words_packing.specs.Pack.{bytes_of, packed_length, packed, packing, pack_into, packing_eights, pack_eights_into, packing_number, packing_value};
 ghost use Rattle.words.specs.Base.{is_word};
 
 use crate::PackingRefused;
-use crate::eights::{EIGHT, TWO, low, put_high};
+use crate::eights::{EIGHT, put_high};
+use crate::stands::Stands;
 
 // 2^60: a word is below it
 pub(crate) const LIMIT: u64 = 1152921504606846976;
@@ -28,69 +29,53 @@ fn put_pair(out: &mut [u8], a: u64, b: u64)
 }
 
 // Whether every number is a word of 60 bits.
-fn are_words(words: &[u64]) -> bool
-    ensures { result ≡ all is_word words.now }
+fn are_words<E: Stands>(words: &[E]) -> bool
+    ensures { result ≡ all is_word (E.words words.now) }
 {
-    let mut i = 0;
-    while i < words.len() {
-        if LIMIT <= words[i] {
+    for i in 0..E::count(words) {
+        if LIMIT <= E::word(words, i) {
             return false;
         }
-        i += 1;
-    }
-    true
-}
-
-// The same of words that are eight bytes each.
-fn are_eights(words: &[u8]) -> bool
-    ensures { result ≡ all is_word (words_of_eights words.now) }
-{
-    let mut i = 0;
-    while EIGHT <= words.len() - i {
-        if LIMIT <= low(words, i) {
-            return false;
-        }
-        i += EIGHT;
     }
     true
 }
 
 // The writing alone, where all fits: two words a turn, and then an odd last one.
-fn write_packed(words: &[u64], out: &mut [u8])
-    requires { (all is_word words.now ≡ true) × (packed_length (length words.now) ≤ length out.old) }
-    ensures { out.new ≡ packed words.now ++ drop (packed_length (length words.now)) out.old }
+fn write_packed<E: Stands>(words: &[E], out: &mut [u8])
+    requires { (all is_word (E.words words.now) ≡ true) × (packed_length (length (E.words words.now)) ≤ length out.old) }
+    ensures { out.new ≡ packed (E.words words.now) ++ drop (packed_length (length (E.words words.now))) out.old }
 {
+    let n = E::count(words);
     let mut i = 0;
     let mut at = 0;
-    while 2 <= words.len() - i {
-        put_pair(&mut out[at..at + PAIR], words[i], words[i + 1]);
+    while 2 <= n - i {
+        put_pair(
+            &mut out[at..at + PAIR],
+            E::word(words, i),
+            E::word(words, i + 1),
+        );
         i += 2;
         at += PAIR;
     }
-    if i < words.len() {
-        put_high(&mut out[at..at + EIGHT], words[i] * NIBBLE);
+    if i < n {
+        put_high(&mut out[at..at + EIGHT], E::word(words, i) * NIBBLE);
     }
 }
 
-// The same from words that are eight bytes each.
-fn write_packed_eights(words: &[u8], out: &mut [u8])
-    requires { (all is_word (words_of_eights words.now) ≡ true) × (packed_length (length words.now / 8) ≤ length out.old) }
-    ensures { out.new ≡ packed (words_of_eights words.now) ++ drop (packed_length (length words.now / 8)) out.old }
+// Packs the words of a space, however they stand in it.
+fn pack_words<E: Stands>(words: &[E], out: &mut [u8]) -> Result<usize, PackingRefused>
+    ensures value { result ≡ packing (E.words words.now) (length out.old) }
+    ensures out_after { out.new ≡ pack_into (E.words words.now) out.old }
 {
-    let mut i = 0;
-    let mut at = 0;
-    while TWO <= words.len() - i {
-        put_pair(
-            &mut out[at..at + PAIR],
-            low(words, i),
-            low(words, i + EIGHT),
-        );
-        i += TWO;
-        at += PAIR;
+    let size = (PAIR * E::count(words) + 1) / 2;
+    if out.len() < size {
+        return Err(PackingRefused::Space);
     }
-    if EIGHT <= words.len() - i {
-        put_high(&mut out[at..at + EIGHT], low(words, i) * NIBBLE);
+    if !are_words(words) {
+        return Err(PackingRefused::Space);
     }
+    write_packed(words, out);
+    Ok(size)
 }
 
 // Packs words (RULES, "Packing"): each two into 15 bytes, and one that is left over into 8.
@@ -98,16 +83,7 @@ pub fn pack(words: &[u64], out: &mut [u8]) -> Result<usize, PackingRefused>
     ensures value { result ≡ packing words.now (length out.old) }
     ensures out_after { out.new ≡ pack_into words.now out.old }
 {
-    let size = (PAIR * words.len() + 1) / 2;
-    if out.len() < size {
-        return Err(PackingRefused::Space);
-    }
-    if are_words(words) {
-        write_packed(words, out);
-        Ok(size)
-    } else {
-        Err(PackingRefused::Space)
-    }
+    pack_words(words, out)
 }
 
 // The same for C, where a word is eight bytes, the lowest ahead.
@@ -118,16 +94,7 @@ pub fn pack_bytes(words: &[u8], out: &mut [u8]) -> Result<usize, PackingRefused>
     if words.len() % EIGHT != 0 {
         return Err(PackingRefused::Length);
     }
-    let size = (PAIR * (words.len() / EIGHT) + 1) / 2;
-    if out.len() < size {
-        return Err(PackingRefused::Space);
-    }
-    if are_eights(words) {
-        write_packed_eights(words, out);
-        Ok(size)
-    } else {
-        Err(PackingRefused::Space)
-    }
+    pack_words(words, out)
 }
 
 // The row of the table, 0 where it was done.

@@ -7,7 +7,13 @@ use Rattle.words_packing.proofs.WrittenSoFar.{Filling}
 use Rattle.words_packing.proofs.unpacker.write_unpacked.Given as goal
 
 abbrev pub invariant-loop-at : goal.invariant-loop-at
-invariant-loop-at l = (l.at ≤ length l.bytes) × (((l.at % 15 ≡ 0) × (l.i ≡ 2 * (l.at / 15))) × Filling (unpacked l.bytes) (unpacked (drop l.at l.bytes)) l.initial.out l.out l.i)
+invariant-loop-at g l =
+    record {
+      within : l.at ≤ length l.bytes;
+      turns : l.at % 15 ≡ 0;
+      pace : l.i ≡ 2 * (l.at / 15);
+      filling : Filling (unpacked l.bytes) (unpacked (drop l.at l.bytes)) (g.E.Stands.words l.initial.out) (g.E.Stands.words l.out) l.i;
+    }
 
 abbrev pub decreases-loop-at : goal.decreases-loop-at
-decreases-loop-at l = length l.bytes - l.at
+decreases-loop-at g l = length l.bytes - l.at
