@@ -1,6 +1,5 @@
 // A case's line.
-use std::fmt;
-use std::io;
+use std::{fmt, io};
 
 // The three numbers of the call, and the sum over its space.
 #[derive(Clone, Copy, PartialEq, Eq)]
@@ -24,7 +23,11 @@ pub enum Unanswered {
 
 impl fmt::Display for Numbers {
     fn fmt<W: fmt::Write>(&self, f: &mut fmt::Formatter<W>) -> fmt::Result {
-        write!(f, "{} {} {} {}", self.number, self.first, self.second, self.sum)
+        write!(
+            f,
+            "{} {} {} {}",
+            self.number, self.first, self.second, self.sum
+        )
     }
 }
 

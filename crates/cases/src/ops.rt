@@ -1,21 +1,18 @@
 // The ops. One more is an arm of `answer` and a function that lends the fronts of the arrays to the engine; none needs a proof file.
 use crate::answer::{Numbers, Unanswered};
 use crate::op::Op;
-use crate::space::{front, whole_words};
-use cases_sums::{Head, fill_bytes, fill_words, sum_bytes, sum_words};
+use crate::space::{Item, front, whole_words};
+use cases_sums::Head;
+use words_packing::{PackingRefused, packing_number, packing_value};
 
 // the lengths of the arrays whose fronts are the room of a call
 pub const LIBRARY: usize = 65536;
 
 pub const FILE: usize = 182000;
 
-// Words or bytes of a blob, or the space of a call, where the array has so many.
+// The words or bytes of a blob, where the array has so many.
 fn lent<T>(n: usize, array: &[T]) -> Result<&[T], Unanswered> {
     array.get(..n).ok_or(Unanswered::Beyond)
-}
-
-fn lent_mut<T>(n: usize, array: &mut [T]) -> Result<&mut [T], Unanswered> {
-    array.get_mut(..n).ok_or(Unanswered::Beyond)
 }
 
 // An image or a text of n bytes, which are whole words.
@@ -23,56 +20,65 @@ fn image(n: usize, words: &[u64]) -> Result<&[u64], Unanswered> {
     lent(whole_words(n).ok_or(Unanswered::Beyond)?, words)
 }
 
-fn pack(head: Head, bytes: &[u8], file: &mut [u8]) -> Result<Numbers, Unanswered> {
-    let source = lent(head.first, bytes)?;
-    let room = lent_mut(head.room, file)?;
-    fill_bytes(room);
-    let p = words_packing::pack_bytes(source, room);
+// Lends the room to a call that gives its three numbers.
+fn with_room<T: Item, F: FnOnce(&mut [T]) -> (u64, u64, u64)>(
+    n: usize,
+    array: &mut [T],
+    call: F,
+) -> Result<Numbers, Unanswered>
+    requires { F.IsAlwaysCallable call }
+{
+    let room = array.get_mut(..n).ok_or(Unanswered::Beyond)?;
+    T::fill(room);
+    let (number, first, second) = call(room);
     Ok(Numbers {
-        number: words_packing::packing_number(p),
-        first: words_packing::packing_value(p),
-        second: 0,
-        sum: sum_bytes(room),
+        number,
+        first,
+        second,
+        sum: T::sum(room),
     })
 }
 
-fn unpack(head: Head, bytes: &[u8], file: &mut [u8]) -> Result<Numbers, Unanswered> {
+// Packs or unpacks, as the call does.
+fn packing<F: FnOnce(&[u8], &mut [u8]) -> Result<usize, PackingRefused>>(
+    head: Head,
+    bytes: &[u8],
+    file: &mut [u8],
+    call: F,
+) -> Result<Numbers, Unanswered>
+    requires { F.IsAlwaysCallable call }
+{
     let source = lent(head.first, bytes)?;
-    let room = lent_mut(head.room, file)?;
-    fill_bytes(room);
-    let p = words_packing::unpack_bytes(source, room);
-    Ok(Numbers {
-        number: words_packing::packing_number(p),
-        first: words_packing::packing_value(p),
-        second: 0,
-        sum: sum_bytes(room),
+    with_room(head.room, file, |room| {
+        let p = call(source, room);
+        (packing_number(p), packing_value(p), 0)
     })
+}
+
+// How much a call put into the front of `out`.
+fn put<T: Item>(number: u64, count: usize, out: &[T]) -> Numbers {
+    Numbers {
+        number,
+        first: count as u64,
+        second: 0,
+        sum: T::sum(&out[..front(count, out)]),
+    }
 }
 
 fn compress(head: Head, bytes: &[u8]) -> Result<Numbers, Unanswered> {
-    let line = lent(head.first, bytes)?;
-    let mut text = [0u64; 16];
-    let c = words_text_compress::compress(line, &mut text);
-    let count = c.unwrap_or(0);
-    Ok(Numbers {
-        number: words_text_compress::compressed_number(c),
-        first: count as u64,
-        second: 0,
-        sum: sum_words(&text[..front(count, &text)]),
-    })
+    let mut text = [0; 16];
+    let c = words_text_compress::compress(lent(head.first, bytes)?, &mut text);
+    Ok(put(
+        words_text_compress::compressed_number(c),
+        c.unwrap_or(0),
+        &text,
+    ))
 }
 
 fn expand(head: Head, words: &[u64]) -> Result<Numbers, Unanswered> {
-    let text = image(head.first, words)?;
-    let mut line = [0u8; 80];
-    let e = words_text_expand::expand(text, &mut line);
-    let count = e.unwrap_or(0);
-    Ok(Numbers {
-        number: words_text_expand::expanded_number(e),
-        first: count as u64,
-        second: 0,
-        sum: sum_bytes(&line[..front(count, &line)]),
-    })
+    let mut line = [0; 80];
+    let e = words_text_expand::expand(image(head.first, words)?, &mut line);
+    Ok(put(words_text_expand::expanded_number(e), e.unwrap_or(0), &line))
 }
 
 fn line(head: Head, bytes: &[u8]) -> Result<Numbers, Unanswered> {
@@ -97,27 +103,21 @@ fn run(
 ) -> Result<Numbers, Unanswered> {
     let old = image(head.first, words)?;
     let stream = lent(head.second, bytes)?;
-    let room = lent_mut(head.room, library)?;
-    fill_words(room);
-    let r = run::run(old, stream, room);
-    Ok(Numbers {
-        number: run_meaning::ran_number(r),
-        first: run_meaning::ran_value(r),
-        second: 0,
-        sum: sum_words(room),
+    with_room(head.room, library, |room| {
+        let r = run::run(old, stream, room);
+        (run_meaning::ran_number(r), run_meaning::ran_value(r), 0)
     })
 }
 
 fn compile(head: Head, words: &[u64], file: &mut [u8]) -> Result<Numbers, Unanswered> {
     let image = image(head.first, words)?;
-    let room = lent_mut(head.room, file)?;
-    fill_bytes(room);
-    let c = compile::compile(image, room);
-    Ok(Numbers {
-        number: compile::compiled_number(c),
-        first: compile::compiled_first(c),
-        second: compile::compiled_second(c),
-        sum: sum_bytes(room),
+    with_room(head.room, file, |room| {
+        let c = compile::compile(image, room);
+        (
+            compile::compiled_number(c),
+            compile::compiled_first(c),
+            compile::compiled_second(c),
+        )
     })
 }
 
@@ -126,14 +126,13 @@ fn merge(head: Head, words: &[u64], library: &mut [u64]) -> Result<Numbers, Unan
     let at = front(head.first / 8, words);
     let first = image(head.first, words)?;
     let second = image(head.second, &words[at..])?;
-    let room = lent_mut(head.room, library)?;
-    fill_words(room);
-    let m = merge::merge(first, second, room);
-    Ok(Numbers {
-        number: merge_meaning::merged_number(m),
-        first: merge_meaning::merged_value(m),
-        second: merge_meaning::merged_which(m),
-        sum: sum_words(room),
+    with_room(head.room, library, |room| {
+        let m = merge::merge(first, second, room);
+        (
+            merge_meaning::merged_number(m),
+            merge_meaning::merged_value(m),
+            merge_meaning::merged_which(m),
+        )
     })
 }
 
@@ -148,8 +147,8 @@ pub fn answer(
         Op::Check => check(head, words),
         Op::Run => run(head, words, bytes, library),
         Op::Compile => compile(head, words, file),
-        Op::Pack => pack(head, bytes, file),
-        Op::Unpack => unpack(head, bytes, file),
+        Op::Pack => packing(head, bytes, file, words_packing::pack_bytes),
+        Op::Unpack => packing(head, bytes, file, words_packing::unpack_bytes),
         Op::Compress => compress(head, bytes),
         Op::Expand => expand(head, words),
         Op::Line => line(head, bytes),
