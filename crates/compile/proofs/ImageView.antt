@@ -4,7 +4,7 @@
 --   its decks    decks-at
 --   the image    image-table, view-plain, image-answers
 --   the check    compile-sound, compile-refused
-use Rattle.std.specs.Prelude.{if◌then◌else◌}
+use Rattle.std.specs.Prelude.{if◌then◌else◌, Result, Ok, Err}
 use Prim.Native.Nat.{ℕ, zero, suc, ◌+◌, ◌-◌, ◌*◌, ◌%◌, ◌^◌, ◌≤◌, ◌<◌}
 use native.Mathlib.Omega.{arith}
 use mathlib.Core.Path.{◌≡◌, refl, sym, ap, ◌∙◌, subst}
@@ -33,13 +33,12 @@ use Rattle.library_image_decks.proofs.CardsEnd.{stands-first, cards-end, cards-a
 use Rattle.library_image_decks.proofs.DeckPlaces.{decks-begin, few, encoded, place_is, whole, decks-stand, yanks-end}
 use Rattle.compile_walk.specs.View.{DeckView, shown_card, shown, view_decks, view}
 use Rattle.compile_walk.specs.TableView.{shown_of, cons_if, shown_in, table_view}
-use Rattle.library.specs.declared.Fault.{Fault}
-use Rattle.library.specs.declared.Checked.{Checked}
-use Rattle.library.specs.declared.Checked.TheVariants.{Sound as Accepts, Refused as Rejects}
+use Rattle.library.specs.declared.Refusal.{Refusal}
+use Rattle.compile_walk.specs.declared.Counts.{Counts}
 use Rattle.compile.specs.Compile.{Compiling, of_walk, compile_view, compile_checked, compiling}
 use Rattle.compile.specs.Answer.{Printable, Plain, CompileAnswers, Compiles, CompilesImage}
-use Rattle.compile.specs.declared.Compiled.{Compiled}
-use Rattle.compile.specs.declared.Compiled.TheVariants.{Library as OfLibrary}
+use Rattle.compile.specs.declared.CompileRefused.{CompileRefused}
+use Rattle.compile.specs.declared.CompileRefused.TheVariants.{Library as OfLibrary}
 use Rattle.compile_walk.proofs.ActiveCards.{shown-more, shown-past}
 
 -- A CARD: its words stand at a place, and the names in the directory
@@ -202,7 +201,7 @@ module _ (ws : List ℕ) (l : Library) (e : check ws ≡ good l) where
   view-plain = view-named l (check_sound ws l e)
 
   -- what a table of it answers, it answers
-  pub image-answers : (table : List ℕ) (r : Compiled) (before after : List ℕ) → table ≡ table_of ws → Compiles (table_view ws table) (table_view ws table) r before after → CompileAnswers (of_walk (compile_view (length before) (view l))) r before after
+  pub image-answers : (table : List ℕ) (r : Result Counts CompileRefused) (before after : List ℕ) → table ≡ table_of ws → Compiles (table_view ws table) (table_view ws table) r before after → CompileAnswers (of_walk (compile_view (length before) (view l))) r before after
   image-answers table r before after t c =
       let i = image-table in
       let v : table_view ws table ≡ view l = ap (table_view ws) (t ∙ tables-all ws i.place i.count) ∙ i.is in
@@ -213,22 +212,22 @@ module _ (ws before : List ℕ) where
   abbrev by : Checking → Compiling
   by c = compile_checked (length before) c
 
-  pub compile-sound : (a : Checked) (r : Compiled) (after : List ℕ) → a ≡ checked (check ws) → a ≡ Accepts → CompilesImage ws r before after → CompileAnswers (compiling ws (length before)) r before after
+  pub compile-sound : (r : Result Counts CompileRefused) (after : List ℕ) → Ok tt ≡ checked (check ws) → CompilesImage ws r before after → CompileAnswers (compiling ws (length before)) r before after
   unfolding compiling
-  compile-sound a r after e q h = go (check ws) refl (sym e ∙ q)
+  compile-sound r after q h = go (check ws) refl q
     where
-      go : (c : Checking) → check ws ≡ c → checked c ≡ Accepts → CompileAnswers (by (check ws)) r before after
+      go : (c : Checking) → check ws ≡ c → Ok tt ≡ checked c → CompileAnswers (by (check ws)) r before after
       go (good l) p s = subst (λ (c : Checking). CompileAnswers (by c) r before after) (sym p) (h l p)
       go (bad f n) p s = absurd (let z : ◌≡◌ {A = ℕ} 0 1 = cc in omega arith)
 
-  pub compile-refused : (a : Checked) (f : Fault) (n : ℕ) → a ≡ checked (check ws) → a ≡ Rejects f n → CompileAnswers (compiling ws (length before)) (OfLibrary f n) before before
+  pub compile-refused : (k : Refusal) → Err k ≡ checked (check ws) → CompileAnswers (compiling ws (length before)) (Err (OfLibrary k)) before before
   unfolding compiling
-  compile-refused a f n e q = go (check ws) refl (sym e ∙ q)
+  compile-refused k q = go (check ws) refl q
     where
-      from : Checked → Compiled
-      from Accepts = OfLibrary f n
-      from (Rejects g m) = OfLibrary g m
+      from : Result (Unit {0}) Refusal → Result Counts CompileRefused
+      from (Ok u) = Err (OfLibrary k)
+      from (Err j) = Err (OfLibrary j)
 
-      go : (c : Checking) → check ws ≡ c → checked c ≡ Rejects f n → CompileAnswers (by (check ws)) (OfLibrary f n) before before
+      go : (c : Checking) → check ws ≡ c → Err k ≡ checked c → CompileAnswers (by (check ws)) (Err (OfLibrary k)) before before
       go (good l) p s = absurd (let z : ◌≡◌ {A = ℕ} 0 1 = cc in omega arith)
-      go (bad g m) p s = subst (λ (c : Checking). CompileAnswers (by c) (OfLibrary f n) before before) (sym p) (sym (ap from s), refl)
+      go (bad g m) p s = subst (λ (c : Checking). CompileAnswers (by c) (Err (OfLibrary k)) before before) (sym p) (ap from s, refl)

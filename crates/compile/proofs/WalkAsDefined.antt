@@ -3,7 +3,7 @@
 --   the space              into, Fits, write-follows
 --   the walk               Follows, cards-follows, called-follows, decks-follows
 --   the two passes         table-halted, table_done, table-halted-again
-use Rattle.std.specs.Prelude.{if◌then◌else◌}
+use Rattle.std.specs.Prelude.{if◌then◌else◌, Result, Ok, Err}
 use Prim.Native.Nat.{ℕ, zero, suc, ◌+◌, ◌*◌, ◌/◌, ◌≤◌, ◌<◌}
 use native.Mathlib.Omega.{arith}
 use mathlib.Core.Path.{◌≡◌, refl, sym, ap, ◌∙◌, subst}
@@ -24,10 +24,11 @@ use Rattle.compile.specs.Compile.{of_walk, file_of}
 use Rattle.compile_walk.specs.Lines.{line_for}
 use Rattle.compile_walk.specs.declared.Stop.{Stop}
 use Rattle.compile_walk.specs.declared.Stop.TheVariants.{NoDeck, NotCommon, Deep, Many, Space}
-use Rattle.compile.specs.declared.Compiled.TheVariants.{Done, Refused}
-use Rattle.compile_walk.specs.declared.Walked.{Walked}
-use Rattle.compile_walk.specs.declared.Walked.TheVariants.{On, Halted}
-use Rattle.compile_walk.specs.Steps.{WalkState, walk_state, halted_at, write_of, put_of, Callee, open_of, step_of, run_of, callee_at, run_at, decks_of, walk_on}
+use Rattle.compile.specs.declared.CompileRefused.{CompileRefused}
+use Rattle.compile.specs.declared.CompileRefused.TheVariants.{Card as OfCard}
+use Rattle.compile_walk.specs.declared.Counts.{Counts}
+use Rattle.compile_walk.specs.declared.Halt.{Halt}
+use Rattle.compile_walk.specs.Steps.{WalkState, walk_state, on_with, halted_at, write_of, put_of, Callee, open_of, step_of, run_of, callee_at, run_at, decks_of, walk_on}
 use Rattle.compile.specs.Answer.{Printable, CompileAnswers}
 use Rattle.compile_walk.proofs.LineColumns.{line-long}
 
@@ -89,14 +90,14 @@ module _ (space : List ℕ) where
 
   -- THE WALK
   abbrev pub Follows : Bool → Walk → WalkState → Type 0
-  Follows w (walked ls n) s = Fits room ls × (s ≡ walk_state (On (length ls) n) (into w ls space))
-  Follows w (halted k o q) s = (s.answer ≡ Halted k o q) × (w ≡ false → s.out ≡ space)
+  Follows w (walked ls n) s = Fits room ls × (s ≡ on_with (length ls) n (into w ls space))
+  Follows w (halted k o q) s = (s.answer ≡ Err (record { stop = k; owner = o; seq = q })) × (w ≡ false → s.out ≡ space)
 
   bind : (w : Bool) (x : Walk) (s : WalkState) (f : List (List ℕ) → ℕ → Walk) (g : ℕ → ℕ → List ℕ → WalkState) → Follows w x s
       → ((ls : List (List ℕ)) (n : ℕ) → Fits room ls → Follows w (f ls n) (g (length ls) n (into w ls space))) → Follows w (then_on x f) (walk_on s g)
   bind w (walked ls n) s f g h on = subst (λ (q : WalkState). Follows w (f ls n) (walk_on q g)) (sym h.1) (on ls n h.0)
   bind w (halted k o q) s f g h on =
-      let stays : walk_on s g ≡ s = λ i. elim (h.0 i) [ On l n ↦ g l n s.out | Halted k o n ↦ s ] in
+      let stays : walk_on s g ≡ s = λ i. elim (h.0 i) [ Ok n ↦ g n.lines n.calls s.out | Err k ↦ s ] in
       subst (λ (r : WalkState). Follows w (halted k o q) r) (sym stays) h
 
   module _ (w : Bool) (ds : List DeckView) (plain : Each (λ d. Each Printable d.lines) ds) where
@@ -149,15 +150,15 @@ module _ (space : List ℕ) where
           go not_common h = stopped NotCommon c ls
           go (common cs) h = opens c cs ls n h f
       step_follows c named Not ls n f =
-          subst (λ (m : ℕ). Follows w (at_card ds room inner c Not ls n) (if ltb (length ls) (m / 91) then walk_state (On (length ls + 1) n) (write_of w (length ls * 91) c (into w ls space)) else halted_at Space c (into w ls space)))
+          subst (λ (m : ℕ). Follows w (at_card ds room inner c Not ls n) (if ltb (length ls) (m / 91) then on_with (length ls + 1) n (write_of w (length ls * 91) c (into w ls space)) else halted_at Space c (into w ls space)))
           (sym (into-long w ls f)) (go (ltb (length ls) room) refl)
         where
           go : (b : Bool) → ltb (length ls) room ≡ b
               → Follows w (if b then walked (ls ++ (printed c ∷ [])) n else halt_at Space c)
-              (if b then walk_state (On (length ls + 1) n) (write_of w (length ls * 91) c (into w ls space)) else halted_at Space c (into w ls space))
+              (if b then on_with (length ls + 1) n (write_of w (length ls * 91) c (into w ls space)) else halted_at Space c (into w ls space))
           go true e = (
             more-fits c named ls f (ltb-true (length ls) room e),
-            λ i. walk_state (On (more-count c named ls f i) n) (write-follows c named ls f w i),
+            λ i. on_with (more-count c named ls f i) n (write-follows c named ls f w i),
           )
           go false e = stopped Space c ls
 
@@ -196,7 +197,7 @@ module _ (space : List ℕ) where
             → Follows w (then_on (walk_cards ds room (called ds room 8) d.lines ls n) (λ ls' n'. walk_decks ds room (full_choice es) ls' n'))
             (walk_on (run_at w ds 8 d.lines (length ls) n (into w ls space)) (λ l n' o. decks_of w ds es l n' o))
             → Follows w (walk_decks ds room (if b then full_choice es else (d ∷ full_choice es)) ls n)
-            (walk_on (if b then walk_state (On (length ls) n) (into w ls space) else run_at w ds 8 d.lines (length ls) n (into w ls space)) (λ l n' o. decks_of w ds es l n' o))
+            (walk_on (if b then on_with (length ls) n (into w ls space) else run_at w ds 8 d.lines (length ls) n (into w ls space)) (λ l n' o. decks_of w ds es l n' o))
         go true p q = p
         go false p q = q
 
@@ -208,16 +209,17 @@ module _ (space : List ℕ) where
         start false = refl
 
 -- THE TWO PASSES: o is the space after the first, p after the second
-module _ (space : List ℕ) (x : Walk) (r : Walked) (o : List ℕ) (f : Follows space false x (walk_state r o)) where
-  pub first-halted : (k : Stop) (a b : ℕ) → r ≡ Halted k a b → CompileAnswers (of_walk x) (Refused k a b) space o
-  first-halted k a b e = go x f
+abbrev answered : Result Counts Halt → Result Counts CompileRefused
+answered (Ok n) = Ok n
+answered (Err h) = Err (OfCard h)
+
+module _ (space : List ℕ) (x : Walk) (r : Result Counts Halt) (o : List ℕ) (f : Follows space false x (walk_state r o)) where
+  pub first-halted : (h : Halt) → r ≡ Err h → CompileAnswers (of_walk x) (Err (OfCard h)) space o
+  first-halted h e = go x f
     where
-      go : (y : Walk) → Follows space false y (walk_state r o) → CompileAnswers (of_walk y) (Refused k a b) space o
-      go (walked ls n) h = absurd (let q : r ≡ On (length ls) n = ap (λ (s : WalkState). s.answer) h.1 in let z : ◌≡◌ {A = ℕ} 0 1 = cc in omega arith)
-      go (halted j c d) h = let q : Halted k a b ≡ Halted j c d = sym e ∙ h.0 in (same q, h.1 refl)
-        where
-          same : Halted k a b ≡ Halted j c d → Refused k a b ≡ Refused j c d
-          same p = ap (λ (y : Walked). elim y [ On l n ↦ Done l n | Halted j c d ↦ Refused j c d ]) p
+      go : (y : Walk) → Follows space false y (walk_state r o) → CompileAnswers (of_walk y) (Err (OfCard h)) space o
+      go (walked ls n) g = absurd (let q : r ≡ Ok (record { lines = length ls; calls = n }) = ap (λ (s : WalkState). s.answer) g.1 in let z : ◌≡◌ {A = ℕ} 0 1 = cc in omega arith)
+      go (halted j c d) g = (ap answered (sym e ∙ g.0), g.1 refl)
 
   pub first-kept : o ≡ space
   first-kept = go x f
@@ -226,42 +228,39 @@ module _ (space : List ℕ) (x : Walk) (r : Walked) (o : List ℕ) (f : Follows 
       go (walked ls n) h = ap (λ (s : WalkState). s.out) h.1
       go (halted j c d) h = h.1 refl
 
-  module _ (l n : ℕ) (e : r ≡ On l n) (t : Walked) (p : List ℕ) (g : Follows space true x (walk_state t p)) where
-    pub second-done : (l' n' : ℕ) → t ≡ On l' n' → CompileAnswers (of_walk x) (Done l' n') space p
-    second-done l' n' q = go x g
+  module _ (k : Counts) (e : r ≡ Ok k) (t : Result Counts Halt) (p : List ℕ) (g : Follows space true x (walk_state t p)) where
+    pub second-done : (m : Counts) → t ≡ Ok m → CompileAnswers (of_walk x) (Ok m) space p
+    second-done m q = go x g
       where
-        go : (y : Walk) → Follows space true y (walk_state t p) → CompileAnswers (of_walk y) (Done l' n') space p
-        go (walked ls m) h = (
-          ap (λ (y : Walked). elim y [ On l n ↦ Done l n | Halted j c d ↦ Refused j c d ]) (sym q ∙ ap (λ (s : WalkState). s.answer) h.1),
-          ap (λ (s : WalkState). s.out) h.1,
-        )
-        go (halted j c d) h = absurd (let a : t ≡ Halted j c d = h.0 in let z : ◌≡◌ {A = ℕ} 0 1 = cc in omega arith)
+        go : (y : Walk) → Follows space true y (walk_state t p) → CompileAnswers (of_walk y) (Ok m) space p
+        go (walked ls n) h = (ap answered (sym q ∙ ap (λ (s : WalkState). s.answer) h.1), ap (λ (s : WalkState). s.out) h.1)
+        go (halted j c d) h = absurd (let a : t ≡ Err (record { stop = j; owner = c; seq = d }) = h.0 in let z : ◌≡◌ {A = ℕ} 0 1 = cc in omega arith)
 
-    pub second-halted : (k : Stop) (a b : ℕ) → t ≡ Halted k a b → CompileAnswers (of_walk x) (Refused k a b) space p
-    second-halted k a b q = absurd (go x f g)
+    pub second-halted : (h : Halt) → t ≡ Err h → CompileAnswers (of_walk x) (Err (OfCard h)) space p
+    second-halted h q = absurd (go x f g)
       where
         go : (y : Walk) → Follows space false y (walk_state r o) → Follows space true y (walk_state t p) → ⊥
-        go (walked ls m) h u = let c : t ≡ On (length ls) m = ap (λ (s : WalkState). s.answer) u.1 in let z : ◌≡◌ {A = ℕ} 0 1 = cc in omega arith
-        go (halted j c d) h u = let v : r ≡ Halted j c d = h.0 in let z : ◌≡◌ {A = ℕ} 0 1 = cc in omega arith
+        go (walked ls m) u v = let c : t ≡ Ok (record { lines = length ls; calls = m }) = ap (λ (s : WalkState). s.answer) v.1 in let z : ◌≡◌ {A = ℕ} 0 1 = cc in omega arith
+        go (halted j c d) u v = let w : r ≡ Err (record { stop = j; owner = c; seq = d }) = u.0 in let z : ◌≡◌ {A = ℕ} 0 1 = cc in omega arith
 
 -- of a view, and the decks chosen of it
 module _ (space : List ℕ) (ds : List DeckView) (plain : Each (λ d. Each Printable d.lines) ds) (es : List DeckView) (named : Each (λ d. Each Printable d.lines) es)
-    (r : Walked) (o : List ℕ) (e : walk_state r o ≡ decks_of false ds es 0 0 space) where
+    (r : Result Counts Halt) (o : List ℕ) (e : walk_state r o ≡ decks_of false ds es 0 0 space) where
   abbrev walk : Walk
   walk = walk_decks ds (length space / 91) (full_choice es) [] 0
 
   first : Follows space false walk (walk_state r o)
   first = subst (λ (s : WalkState). Follows space false walk s) (sym e) (decks-follows space false ds plain es named)
 
-  pub table-halted : (k : Stop) (a b : ℕ) → r ≡ Halted k a b → CompileAnswers (of_walk walk) (Refused k a b) space o
-  table-halted k a b q = first-halted space walk r o first k a b q
+  pub table-halted : (h : Halt) → r ≡ Err h → CompileAnswers (of_walk walk) (Err (OfCard h)) space o
+  table-halted h q = first-halted space walk r o first h q
 
-  module _ (l n : ℕ) (on : r ≡ On l n) (t : Walked) (p : List ℕ) (again : walk_state t p ≡ decks_of true ds es 0 0 o) where
+  module _ (k : Counts) (on : r ≡ Ok k) (t : Result Counts Halt) (p : List ℕ) (again : walk_state t p ≡ decks_of true ds es 0 0 o) where
     second : Follows space true walk (walk_state t p)
     second = subst (λ (s : WalkState). Follows space true walk s) (sym (again ∙ ap (decks_of true ds es 0 0) (first-kept space walk r o first))) (decks-follows space true ds plain es named)
 
-    pub table_done : (l' n' : ℕ) → t ≡ On l' n' → CompileAnswers (of_walk walk) (Done l' n') space p
-    table_done l' n' q = second-done space walk r o first l n on t p second l' n' q
+    pub table_done : (m : Counts) → t ≡ Ok m → CompileAnswers (of_walk walk) (Ok m) space p
+    table_done m q = second-done space walk r o first k on t p second m q
 
-    pub table-halted-again : (k : Stop) (a b : ℕ) → t ≡ Halted k a b → CompileAnswers (of_walk walk) (Refused k a b) space p
-    table-halted-again k a b q = second-halted space walk r o first l n on t p second k a b q
+    pub table-halted-again : (h : Halt) → t ≡ Err h → CompileAnswers (of_walk walk) (Err (OfCard h)) space p
+    table-halted-again h q = second-halted space walk r o first k on t p second h q

@@ -57,8 +57,8 @@ fn compile_chosen(
     ensures { Compiles (table_view image.now table.now) (table_view image.now chosen.now) result out.old out.new }
 {
     walk_decks(image, table, chosen, false, out)?;
-    let counts = walk_decks(image, table, chosen, true, out)?;
-    Ok(counts)
+    let written = walk_decks(image, table, chosen, true, out)?;
+    Ok(written)
 }
 
 // All decks of a table.
