@@ -99,9 +99,12 @@ module _ (ws line end : List ℕ) (from to : ℕ) where
           rw n (omega arith, (refl, e))
       go false = (omega arith, (refl, e))
 
-  pub line_read : to ≤ length ws → end ≡ expand_into words line → Said (unwrap_or (expanding words) 0)
+  pub line_read : to ≤ length ws → (part : List ℕ) → part ≡ words → (n : ℕ) → n ≡ unwrap_or (expanding part) 0 → end ≡ expand_into part line → Said n
   unfolding line_in line_into
-  line_read h x = rw (le-leb to (length ws) h) (lined words line end x)
+  line_read h part is n r x =
+      let m : n ≡ unwrap_or (expanding words) 0 = r ∙ ap (λ (l : List ℕ). unwrap_or (expanding l) 0) is in
+      let y : end ≡ expand_into words line = x ∙ ap (λ (l : List ℕ). expand_into l line) is in
+      rw (le-leb to (length ws) h, m) (lined words line end y)
 
   pub line_taken : (n : ℕ) → n ≡ length (line_in ws from to) → end ≡ line_into ws from to line → take n end ≡ line_in ws from to
   unfolding line_into

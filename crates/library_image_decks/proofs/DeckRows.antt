@@ -6,6 +6,7 @@
 --   Put, put-start, put-more, put_full, put_all   the table
 --   table_taken, tables-all          of all decks
 --   row_cons                         the row at a place of a table
+use Rattle.std.specs.Prelude.{Option}
 use Prim.Native.Nat.{ℕ, zero, suc, ◌+◌, ◌-◌, ◌%◌, ◌≤◌, ◌<◌}
 use native.Mathlib.Omega.{arith}
 use mathlib.Core.Path.{◌≡◌, refl, sym, ap, ◌∙◌}
@@ -98,7 +99,7 @@ module _ (ws : List ℕ) (at : ℕ) where
 
 -- A TABLE made row by row
 module _ (ws : List ℕ) (at : ℕ) (h : at < length ws) (t : is_title (title_at ws at) ≡ true) where
-  module _ (s : Seen) (is : s ≡ seen_at ws at) (title : Title) (said : title ≡ title_in ws s) (e : ℕ) (end : e ≡ deck_end ws s.next) where
+  module _ (s : Seen) (is : s ≡ seen_at ws at) (title : Option Title) (said : title ≡ title_in ws s) (e : ℕ) (end : e ≡ deck_end ws s.next) where
     pub rows_more : (x y whole : List ℕ) → y ≡ x ++ row_of title s.next e → x ++ rows_in ws at ≡ whole → y ++ rows_in ws e ≡ whole
     rows_more x y whole p q =
         let row : row_of title s.next e ≡ row_of (title_at ws at) (next_at ws at) (deck_end ws (next_at ws at)) =
@@ -161,7 +162,7 @@ module _ (ws before : List ℕ) (long : length before ≡ 1024) where
         is_whole (r ∙ sym (take_all 1024 (rows_in ws (cards_place ws)) k))
 
     -- one row more
-    module _ (h : at < length ws) (s : Seen) (is : s ≡ seen_at ws at) (t : Title) (said : t ≡ title_in ws s) (e : ℕ) (end : e ≡ deck_end ws s.next) where
+    module _ (h : at < length ws) (s : Seen) (is : s ≡ seen_at ws at) (t : Option Title) (said : t ≡ title_in ws s) (e : ℕ) (end : e ≡ deck_end ws s.next) where
       pub put-room : (n ≡ 1024 → ⊥) → n + 4 ≤ length now
       put-room d = omega (arith, p.same, p.within, p.fours, d)
 

@@ -16,10 +16,13 @@ pub const TO: usize = 2;
 
 pub const KIND: usize = 3;
 
+const NORMAL: u64 = 0;
+
 pub const COMMON: u64 = 1;
 // a library has at most 255 decks
 pub const TABLE: usize = 1024;
 
+// A deck's row, at a place of the table.
 fn put_row(table: &mut [u64], at: usize, title: Option<Title>, from: usize, to: usize)
     requires { at + 4 ≤ length table.old }
     ensures table_after { take (at + 4) table.new ≡ take at table.old ++ row_of title from to }
@@ -28,7 +31,11 @@ fn put_row(table: &mut [u64], at: usize, title: Option<Title>, from: usize, to: 
     table[at] = title.map_or(0, |t| t.name);
     table[at + FROM] = from as u64;
     table[at + TO] = to as u64;
-    table[at + KIND] = title.map_or(0, |t| u64::from(t.common));
+    table[at + KIND] = if title.is_some_and(|t| t.common) {
+        COMMON
+    } else {
+        NORMAL
+    };
 }
 
 // Where the cards start.

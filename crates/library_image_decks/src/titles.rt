@@ -32,7 +32,10 @@ pub(crate) fn title_of(image: &[u64], c: Seen) -> Option<Title>
     ensures { result ≡ title_in image.now c }
 {
     match deck_at(image, c.text, c.next) {
-        DeckLine::Deck(name) => Some(Title { name, common: false }),
+        DeckLine::Deck(name) => Some(Title {
+            name,
+            common: false,
+        }),
         DeckLine::Common(name) => Some(Title { name, common: true }),
         DeckLine::NotDeck | DeckLine::BadDeck => None,
     }

@@ -15,10 +15,3 @@ bounds-table-at-3 c = simp length-set (omega arith)
 
 pub bounds-table-at-4 : goal.bounds-table-at-4
 bounds-table-at-4 c = simp length-set (omega arith)
-
-pub returns : goal.returns
-returns c = let a = c.args in record {
-  table_after = four-put a.table.now a.at _ a.from a.to _ (search rules)
-      ∙ (λ i. take a.at a.table.now ++ (c.name_of.ensures i ∷ a.from ∷ a.to ∷ c.kind_of.ensures i ∷ []));
-  table_unchanged = four-after a.table.now a.at _ a.from a.to _;
-}
