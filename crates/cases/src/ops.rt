@@ -1,4 +1,4 @@
-// The ops. One more is an arm of `answer` and a function that lends the fronts of the arrays to the engine; none needs a proof file.
+// The ops. One more is a kind of `Op` with its number, an arm of `answer`, and a function that lends the fronts of the arrays to the engine; none needs a proof file.
 use crate::answer::{Numbers, Unanswered};
 use crate::op::Op;
 use crate::space::{Item, front, whole_words};

@@ -1,15 +1,26 @@
 // The parts of the arrays that are lent to a call.
-ghost use Rattle.std.specs.Prelude.{◌≡◌, ◌==◌, ◌/◌, ◌%◌, Some, None, if◌then◌else◌};
+ghost use Rattle.std.specs.Prelude.{◌≡◌, ℕ, List, ◌==◌, ◌/◌, ◌%◌, Some, None, length, replicate, if◌then◌else◌};
+ghost use Rattle.cases_sums.specs.Space.{sum_of, halves};
 ghost use Rattle.cases.specs.Counts.{IsPrefixLen};
 
-// What an array holds, words or bytes: each byte of a space is 5A (hexadecimal) before a call, and the space is summed after it.
+// What an array holds, words or bytes: what each is ahead of a call, and the sum over them after it.
 pub trait Item: Copy {
-    fn fill(space: &mut [Self]);
+    ghost filled: { Self };
 
-    fn sum(space: &[Self]) -> u64;
+    ghost sum_all: { List Self → ℕ };
+
+    fn fill(space: &mut [Self])
+        ensures { space.new ≡ replicate (length space.old) filled };
+
+    fn sum(space: &[Self]) -> u64
+        ensures { result ≡ sum_all space.now };
 }
 
 impl Item for u8 {
+    ghost filled = { 0x5A };
+
+    ghost sum_all = { sum_of };
+
     fn fill(space: &mut [u8]) {
         cases_sums::fill_bytes(space)
     }
@@ -20,6 +31,10 @@ impl Item for u8 {
 }
 
 impl Item for u64 {
+    ghost filled = { 0x5A5A5A5A5A5A5A5A };
+
+    ghost sum_all = { λ s. sum_of (halves s) };
+
     fn fill(space: &mut [u64]) {
         cases_sums::fill_words(space)
     }
