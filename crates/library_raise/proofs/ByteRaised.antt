@@ -1,6 +1,5 @@
 -- A used byte has its number raised, and an unused one stays.
 use Prim.Native.Nat.{ℕ, ◌+◌, ◌*◌, ◌/◌, ◌%◌}
-use native.Mathlib.Omega.{arith}
 use mathlib.Core.Path.{◌≡◌}
 use borrow.Author.Tests.{eq-eqb, ne_eqb}
 use Rattle.library_raise.specs.Raised.{byte_raised}
@@ -13,7 +12,3 @@ module _ (n b : ℕ) where
   pub raise-used : (b ≡ 0 → ⊥) → byte_raised n b ≡ b / 65536 * 65536 + (b % 65536 + n) % 65536
   unfolding byte_raised
   raise-used d = rw (ne_eqb b 0 d)
-
-  -- as the code has it, which may not add n to a number
-  pub raise-rest : (b ≡ 0 → ⊥) → b / 65536 * 65536 + (b % 65536 + n % 65536) % 65536 ≡ byte_raised n b
-  raise-rest d = let e : byte_raised n b ≡ b / 65536 * 65536 + (b % 65536 + n) % 65536 = raise-used d in omega arith

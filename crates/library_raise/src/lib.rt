@@ -8,6 +8,7 @@ ghost use Rattle.library_raise.specs.Raised.{byte_raised, word_raised, further_r
 use library::{ABOVE_BYTES, FIELD, LAST, NUMBER, UPPER};
 
 // A byte with its number raised; an unused one is zero and stays. Numbers go round, so that no word is refused.
+#[tactic(auto, unfolding(crate::specs::Raised::byte_raised))]
 fn raise_byte(b: u64, n: u64) -> u64
     requires { b < 262144 }
     ensures { (result ≡ byte_raised n b) × (result < 262144) }
@@ -18,6 +19,7 @@ fn raise_byte(b: u64, n: u64) -> u64
     b / NUMBER * NUMBER + (b % NUMBER + n % NUMBER) % NUMBER
 }
 
+#[tactic(auto, unfolding(crate::specs::Raised::word_raised))]
 fn raise_word(x: u64, n: u64) -> u64
     ensures { result ≡ word_raised n x }
 {
@@ -34,16 +36,14 @@ fn raise_history(w: &mut [u64], from: usize, n: u64) -> usize
     ensures value { result ≡ from + further_len (drop from w.old) }
     ensures w_after { w.new ≡ take from w.old ++ further_raised n (drop from w.old) }
 {
-    let mut i = from;
-    while i < w.len() {
+    for i in from..w.len() {
         let x = w[i];
         w[i] = raise_word(x, n);
-        i += 1;
         if LAST <= x {
-            return i;
+            return i + 1;
         }
     }
-    i
+    w.len()
 }
 
 // The numbers of the card at `at`. Answers where the next card is.

@@ -1,4 +1,4 @@
--- A byte's yank bit is set from the flags alone, and what it says of activity is read off its bits.
+-- What a byte says of activity is read off its bits.
 pub mod Fixing
 -- The further words of a history: what is left to do from each word on gives what was to do from the first.
 pub mod Histories

@@ -2,25 +2,24 @@
 #![tactic(auto)]
 
 ghost use Rattle.std.specs.Prelude.{◌≡◌, ◌++◌, ◌+◌, ◌≤◌, ◌<◌, length, take, drop};
+ghost use Rattle.library.specs.Image.{bit};
 ghost use Rattle.library_yanks_bits.specs.SettledBits.{flagged, fix_byte, fix_word, say_byte, say_word, further_bits, further_says, with_active, card_bits, settled_words};
 ghost use Rattle.library.specs.CardWords.{further_len, card_len};
 
 use library::{ABOVE_BYTES, ACTIVATING, ACTIVE, FIELD, LAST, UPPER, YANKED};
 
 // A byte with its yank bit as the flags have it: flag n is not 0 where the set n is yanked.
+#[tactic(auto, unfolding(crate::specs::SettledBits::fix_byte, crate::specs::SettledBits::flagged))]
 fn fix_byte(f: &[u64], b: u64) -> u64
     ensures { (result ≡ fix_byte (flagged f.now) b) × (result < 262144) }
 {
-    let n = (b % ACTIVATING) as usize;
-    if f.len() <= n {
-        return b % YANKED;
+    match f.get((b % ACTIVATING) as usize) {
+        Some(flag) if *flag != 0 => YANKED + b % YANKED,
+        _ => b % YANKED,
     }
-    if f[n] == 0 {
-        return b % YANKED;
-    }
-    YANKED + b % YANKED
 }
 
+#[tactic(auto, unfolding(crate::specs::SettledBits::fix_word))]
 fn fix_word(f: &[u64], x: u64) -> u64
     ensures { result ≡ fix_word (flagged f.now) x }
 {
@@ -31,22 +30,20 @@ fn fix_word(f: &[u64], x: u64) -> u64
 }
 
 // What a byte says of activity, after what was said so far: an unused or a yanked one says nothing.
-fn say_byte(so: u64, b: u64) -> u64
-    requires { (so < 2) × (b < 262144) }
-    ensures { (result ≡ say_byte so b) × (result < 2) }
+#[tactic(auto, unfolding(crate::specs::SettledBits::say_byte))]
+fn say_byte(so: bool, b: u64) -> bool
+    requires { b < 262144 }
+    ensures { bit result 0 ≡ say_byte (bit so 0) b }
 {
-    if b == 0 {
+    if b == 0 || YANKED <= b {
         return so;
     }
-    if YANKED <= b {
-        return so;
-    }
-    b / ACTIVATING
+    ACTIVATING <= b
 }
 
-fn say_word(so: u64, y: u64) -> u64
-    requires { so < 2 }
-    ensures { (result ≡ say_word so y) × (result < 2) }
+#[tactic(auto, unfolding(crate::specs::SettledBits::say_word))]
+fn say_word(so: bool, y: u64) -> bool
+    ensures { bit result 0 ≡ say_word (bit so 0) y }
 {
     let a = say_byte(so, y / UPPER % FIELD);
     let b = say_byte(a, y / FIELD % FIELD);
@@ -57,37 +54,35 @@ fn say_word(so: u64, y: u64) -> u64
 #[derive(Clone, Copy)]
 struct Told {
     at: usize,
-    so: u64,
+    so: bool,
 }
 
 // The further words of a history, from `from` on.
-fn settle_history(w: &mut [u64], from: usize, f: &[u64], so0: u64) -> Told
-    requires { (so0 < 2) × (from ≤ length w.old) }
-    ensures so_bound { (result.so < 2) × ((from ≤ result.at) × (result.at ≤ length w.old)) }
-    ensures at_value { (result.at ≡ from + further_len (drop from w.old)) × (result.so ≡ further_says (flagged f.now) so0 (drop from w.old)) }
+fn settle_history(w: &mut [u64], from: usize, f: &[u64], so0: bool) -> Told
+    requires { from ≤ length w.old }
+    ensures bounds { (from ≤ result.at) × (result.at ≤ length w.old) }
+    ensures at { result.at ≡ from + further_len (drop from w.old) }
+    ensures says { bit result.so 0 ≡ further_says (flagged f.now) (bit so0 0) (drop from w.old) }
     ensures w_after { w.new ≡ take from w.old ++ further_bits (flagged f.now) (drop from w.old) }
 {
-    let mut i = from;
     let mut so = so0;
-    while i < w.len() {
+    for i in from..w.len() {
         let x = w[i];
         let y = fix_word(f, x);
         w[i] = y;
         so = say_word(so, y);
-        i += 1;
         if LAST <= x {
-            return Told { at: i, so: so };
+            return Told { at: i + 1, so };
         }
     }
-    Told { at: i, so: so }
+    Told { at: w.len(), so }
 }
 
 // A first word with its activity bit set anew.
-fn with_active(h: u64, on: u64) -> u64
-    requires { on < 2 }
-    ensures { result ≡ with_active h on }
+fn with_active(h: u64, on: bool) -> u64
+    ensures { result ≡ with_active h (bit on 0) }
 {
-    h - h / ACTIVE % 2 * ACTIVE + on * ACTIVE
+    h - h / ACTIVE % 2 * ACTIVE + u64::from(on) * ACTIVE
 }
 
 // The bits of the card at `at`. Answers where the next card is.
@@ -99,7 +94,7 @@ fn settle_card(w: &mut [u64], at: usize, f: &[u64]) -> usize
     let x = w[at];
     let count = (x / UPPER % FIELD) as usize;
     let b = fix_byte(f, x % FIELD);
-    let so = say_byte(0, b);
+    let so = say_byte(false, b);
     let y = x / FIELD * FIELD + b;
     if LAST <= x {
         w[at] = with_active(y, so);

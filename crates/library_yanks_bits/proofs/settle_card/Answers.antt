@@ -3,15 +3,10 @@ use Prim.Native.Nat.{ℕ, ◌+◌, ◌*◌, ◌/◌, ◌^◌}
 use native.Mathlib.Omega.{arith}
 use mathlib.Core.Path.{◌≡◌, ap, ◌∙◌}
 use lib.ListN.{drop, get_or}
+use Rattle.library.specs.Image.{bit}
 use Rattle.library_yanks_bits.specs.SettledBits.{flagged, say_byte, own_bits, own_says, with_active, further_says}
 use Rattle.library_yanks_bits.proofs.Cards.{card-one, card-many, long-one, long-many}
 use Rattle.library_yanks_bits.proofs.settle_card.Goals as goal
-
-pub overflow_mul-y : goal.overflow_mul-y
-overflow_mul-y c = omega (arith, c.type_inv.w c.args.at)
-
-pub overflow_add-y : goal.overflow_add-y
-overflow_add-y c = omega (arith, c.type_inv.w c.args.at)
 
 pub returns-then-x-ge-LAST : goal.returns-then-x-ge-LAST
 returns-then-x-ge-LAST c =
@@ -20,7 +15,7 @@ returns-then-x-ge-LAST c =
     let yk = flagged a.f.now in
     let x = get_or a.w.now a.at 0 in
     let fx = c.fix_byte-b in
-    let said = c.say_byte-so.ensures.0 ∙ ap (say_byte 0) fx.ensures.0 in
+    let said = c.say_byte-so.ensures ∙ ap (say_byte 0) fx.ensures.0 in
     let z : c.with_active.result ≡ with_active (own_bits yk x) (own_says yk x) =
     c.with_active.ensures ∙ (λ j. with_active (x / 2 ^ 18 * 2 ^ 18 + fx.ensures.0 j) (said j)) in record { lower_bound = (omega arith, long-one yk a.w.now a.at low c.if-x-ge-LAST.true); w_after = rw z (card-one yk a.w.now a.at low c.if-x-ge-LAST.true) }
 
@@ -32,9 +27,9 @@ returns c =
     let yk = flagged a.f.now in
     let x = get_or a.w.now a.at 0 in
     let fx = c.fix_byte-b in
-    let sy = c.say_byte-so in
     let h = c.settle_history-t in
-    let z : c.with_active-2.result ≡ with_active (own_bits yk x) h.result.so =
-    c.with_active-2.ensures ∙ (λ j. with_active (x / 2 ^ 18 * 2 ^ 18 + fx.ensures.0 j) h.result.so) in
-    let said : h.result.so ≡ further_says yk (own_says yk x) (drop (a.at + 1) a.w.now) =
-    h.ensures.at_value.1 ∙ ap (λ (so : ℕ). further_says yk so (drop (a.at + 1) a.w.now)) (sy.ensures.0 ∙ ap (say_byte 0) fx.ensures.0) in record { lower_bound = (omega arith, long-many yk a.w.now a.at low more h.result.at h.ensures.at_value.0); w_after = rw (z, h.ensures.w_after) (card-many yk a.w.now a.at low more h.result.so said) }
+    let so = bit h.result.so 0 in
+    let z : c.with_active-2.result ≡ with_active (own_bits yk x) so =
+    c.with_active-2.ensures ∙ (λ j. with_active (x / 2 ^ 18 * 2 ^ 18 + fx.ensures.0 j) so) in
+    let said : so ≡ further_says yk (own_says yk x) (drop (a.at + 1) a.w.now) =
+    h.ensures.says ∙ ap (λ (k : ℕ). further_says yk k (drop (a.at + 1) a.w.now)) (c.say_byte-so.ensures ∙ ap (say_byte 0) fx.ensures.0) in record { lower_bound = (omega (arith, h.ensures.bounds.0), long-many yk a.w.now a.at low more h.result.at h.ensures.at); w_after = rw (z, h.ensures.w_after) (card-many yk a.w.now a.at low more so said) }
