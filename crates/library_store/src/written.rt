@@ -64,9 +64,9 @@ pub fn write_library(
     ensures value { result ≡ has_room directory.now decks.now low.now high.now (length space.old) }
     ensures space_after { space.new ≡ library_into directory.now decks.now low.now high.now space.old }
 {
-    if has_room(directory, decks, low, high, space.len()) {
+    let fits = has_room(directory, decks, low, high, space.len());
+    if fits {
         put_library(directory, decks, low, high, space);
-        return true;
     }
-    false
+    fits
 }

@@ -13,9 +13,9 @@ returns c =
     let n = length a.directory.now in
     let k = length a.decks.now in
     let lo = length a.low.now in
-    c.put_words-4.ensures
-    ∙ ap (over (2 + n + k + lo) a.high.now) c.put_words-3.ensures
-    ∙ ap (λ (v : List ℕ). over (2 + n + k + lo) a.high.now (over (2 + n + k) a.low.now v)) c.put_words-2.ensures
-    ∙ ap (λ (v : List ℕ). over (2 + n + k + lo) a.high.now (over (2 + n + k) a.low.now (over (2 + n) a.decks.now v))) c.put_words.ensures
+    c.put-4.ensures
+    ∙ ap (over (2 + n + k + lo) a.high.now) c.put-3.ensures
+    ∙ ap (λ (v : List ℕ). over (2 + n + k + lo) a.high.now (over (2 + n + k) a.low.now v)) c.put-2.ensures
+    ∙ ap (λ (v : List ℕ). over (2 + n + k + lo) a.high.now (over (2 + n + k) a.low.now (over (2 + n) a.decks.now v))) c.put.ensures
     ∙ ap (λ (v : List ℕ). over (2 + n + k + lo) a.high.now (over (2 + n + k) a.low.now (over (2 + n) a.decks.now (over 2 a.directory.now v)))) c.put_header.ensures
     ∙ library-written a.directory.now a.decks.now a.low.now a.high.now a.space.now c.requires.1.1
