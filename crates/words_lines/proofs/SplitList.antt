@@ -1,5 +1,5 @@
 -- A list split at the elements that pass a test, and a question put to each part. Assumes nothing.
---   the parts from a place on     parts_from, parts_none, parts_more, part-fits
+--   the parts from a place on     parts_from, parts_none, parts-here, parts_more, part-fits
 --   all of them                   all_none, all-next, all-not
 --   in the library's words        split-slice, any-list, all-list, same-bytes
 use Rattle.std.specs.Prelude.{cond, if◌then◌else◌}
@@ -34,6 +34,9 @@ module _ (p : ℕ → Bool) where
   parts-drop (suc n) k [] h = absurd (omega arith)
   parts-drop (suc n) k (x ∷ xs) h = rw suc-add (parts-drop n k xs (omega arith))
 
+  pub parts-here : (at : ℕ) (s : List ℕ) → at ≤ length s → parts_from p at s ≡ split p (drop at s)
+  parts-here at s inside = rw add-zero at (parts-drop at 0 s inside)
+
   split-first : (s : List ℕ) → split p s ≡ take_until p s ∷ parts_from p (length (take_until p s) + 1) s
   split-first [] = refl
   split-first (x ∷ xs) = by-test (p x) (split-first xs)
@@ -51,7 +54,7 @@ module _ (p : ℕ → Bool) where
 
     pub parts_more : parts_from p at s ≡ part ∷ parts_from p (at + (length part + 1)) s
     parts_more =
-        let here : parts_from p at s ≡ split p (drop at s) = rw add-zero at (parts-drop at 0 s inside) in
+        let here : parts_from p at s ≡ split p (drop at s) = parts-here at s inside in
         rw (here, parts-drop at (length part + 1) s inside, is) (split-first (drop at s))
 
     module _ (q : List ℕ → Bool) where

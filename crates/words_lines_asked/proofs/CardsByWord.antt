@@ -1,11 +1,11 @@
 -- Cards by the words and numbers that are read of them: a number is 0 where there is no card. Assumes nothing.
 --   a number is 0 where there is none              is-number, no_number, number_read_lem
 --   a card's name and number                       card-both, card-nameless, card-numberless
---   an empty parameter, and one that is no name    full, named
+--   an empty parameter, and one that is no name    full, named, all-named
 use Rattle.std.specs.Prelude.{Some, None}
 use mathlib.Core.Path.{◌≡◌, refl, sym}
 use mathlib.Core.Bool.{Bool, true, false, ◌&&◌, not}
-use mathlib.Core.List.{List, [], ◌∷◌}
+use mathlib.Core.List.{List, [], ◌∷◌, map}
 use Prim.Native.Nat.{ℕ, suc, ◌<◌}
 use native.Mathlib.Omega.{arith}
 use borrow.Author.Tests.{ltb-true, eqb-true, eqb-false, ne_eqb}
@@ -67,3 +67,7 @@ named p = by-test (eqb (word_of_name p) 0) refl
     by-test : (t : Bool) → eqb (word_of_name p) 0 ≡ t → not t ≡ is_name p
     by-test true e = sym (no_name p (eqb-true _ _ e))
     by-test false e = sym (is_name_lem p (eqb-false _ _ e))
+
+pub all-named : (ps : List (List ℕ)) → all (λ w. not (eqb w 0)) (map word_of_name ps) ≡ all is_name ps
+all-named [] = refl
+all-named (p ∷ ps) = rw (named p, all-named ps)

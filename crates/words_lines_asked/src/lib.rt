@@ -5,4 +5,4 @@ mod asks;
 mod names;
 
 pub use asks::{directive, line_number};
-pub use names::next_name;
+pub use names::{FieldNames, names_of, next_name};

@@ -1,10 +1,12 @@
 // Names and cards in a field of parameters (RULES, "Directives", "Names and numbers").
-ghost use Rattle.std.specs.Prelude.{◌≡◌};
+ghost use Rattle.std.specs.Prelude.{◌≡◌, map};
+ghost use Rattle.std.specs.Iterator.{YieldsFirst, item_count};
 ghost use Rattle.words.specs.Base.{all};
 ghost use Rattle.words.specs.Names.{is_name};
+ghost use Rattle.words.specs.Spelt.{word_of_name};
 ghost use Rattle.words_lines.specs.Directive.{params};
 ghost use Rattle.words_lines.specs.Reading.{next_name};
-ghost use Rattle.words_lines_asked.specs.Parameters.{not_empty, card_read, range_read};
+ghost use Rattle.words_lines_asked.specs.Parameters.{not_empty, names_left, card_read, range_read};
 
 use words_lines::{CardName, NameAt, Stop, part_after, part_at};
 
@@ -23,12 +25,38 @@ pub fn next_name(field: &[u8], at: usize) -> Option<NameAt>
     })
 }
 
+// The names that are left of a field: a name's word, 0 where a parameter is no name.
+#[derive(Drop)]
+pub struct FieldNames<'a> {
+    field: &'a [u8],
+    at: usize,
+}
+
+impl<'a> Iterator for FieldNames<'a> {
+    type Item = u64;
+
+    ghost next_gives = { YieldsFirst names_left };
+
+    ghost remaining = { item_count names_left };
+
+    fn next(&mut self) -> Option<u64> {
+        let name = next_name(self.field, self.at)?;
+        self.at = name.next;
+        Some(name.word)
+    }
+}
+
+// All names of a field.
+pub fn names_of(field: &[u8]) -> FieldNames<'_>
+    ensures { names_left result ≡ map word_of_name (params field.now) }
+{
+    FieldNames { field, at: 0 }
+}
+
 pub(crate) fn all_names(field: &[u8]) -> bool
     ensures { result ≡ all is_name (params field.now) }
 {
-    field
-        .split(|b| *b == b',')
-        .all(|p| words_names::word_of_name(p) != 0)
+    names_of(field).all(|w| w != 0)
 }
 
 pub(crate) fn none_empty(field: &[u8]) -> bool
