@@ -6,6 +6,7 @@ ghost use Rattle.library_index.specs.Names.{Knows};
 use crate::names::{ALL_WAYS, entry_by, plant};
 
 // Names, and ways by which each has its number.
+#[derive(Drop)]
 pub struct Index<'a> {
     names: &'a [u64],
     ways: [u16; ALL_WAYS],
