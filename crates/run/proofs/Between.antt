@@ -1,4 +1,5 @@
 -- With the gap directly ahead of a range's first card, the cards up to its last are marked.
+use Rattle.std.specs.Prelude.{Result}
 use Prim.Native.Nat.{ℕ, ◌+◌, ◌-◌, ◌≤◌, ◌<◌}
 use native.Mathlib.Omega.{arith}
 use mathlib.Core.Path.{◌≡◌, ◌∙◌}
@@ -11,9 +12,9 @@ use Rattle.run.specs.CardSeek.{index_of}
 use Rattle.run.specs.ByteMarks.{mark_all}
 use Rattle.run.specs.Work.{Work, within, up_to, beyond_card, MarksTo, range_of, MarkedBetween}
 use Rattle.run.specs.declared.gap.Gap.{Gap}
-use Rattle.run.specs.declared.marks.Marked.{Marked}
+use Rattle.run_meaning.specs.declared.Why.{Why}
 
-pub marks-between : (w : List ℕ) (h : Gap) (o s was n : ℕ) (v : List ℕ) (r : Marked) → MarksTo w h o s was n v r → (yk : ℕ → Bool) (cs : List Card) (i : ℕ) → Work w h yk (take i cs) (drop i cs)
+pub marks-between : (w : List ℕ) (h : Gap) (o s was n : ℕ) (v : List ℕ) (r : Result Gap Why) → MarksTo w h o s was n v r → (yk : ℕ → Bool) (cs : List Card) (i : ℕ) → Work w h yk (take i cs) (drop i cs)
     → i ≤ index_of o s cs → index_of o s cs < length cs → yk n ≡ false → 0 < n → MarkedBetween w yk cs i (index_of o s cs) was n v r
 marks-between w h o s was n v r marks yk cs i k first last free pos =
     let j : ℕ = index_of o s cs in

@@ -1,5 +1,5 @@
 -- INSERT and BEFORE: the card is found in the stream where the definitions find it in its part.
-use Rattle.std.specs.Prelude.{if◌then◌else◌}
+use Rattle.std.specs.Prelude.{if◌then◌else◌, Ok, Err}
 use Prim.Native.Nat.{ℕ, zero, suc, ◌+◌, ◌-◌, ◌≤◌, ◌<◌}
 use native.Mathlib.Omega.{arith}
 use mathlib.Core.Path.{◌≡◌, refl, sym, ap, ap₂, ◌∙◌, subst}
@@ -29,7 +29,6 @@ use Rattle.run.specs.declared.gap.Gap.{Gap}
 use Rattle.run.specs.declared.seek.Place.{Place}
 use Rattle.run.specs.declared.desk.Desk.{Desk}
 use Rattle.run.specs.declared.desk.TextAt.TheVariants.{Gap as TextGap}
-use Rattle.run.specs.declared.desk.Stepped.TheVariants.{Went as SteppedOn, Refused as SteppedOff}
 use Rattle.run.specs.declared.fixes.Sought.{Sought}
 use Rattle.run_meaning.specs.declared.Why.{Why}
 use Rattle.run_meaning.specs.declared.Why.TheVariants.{Nowhere, NoCard, Barred}
@@ -120,8 +119,8 @@ module _ (w v dir names decks flags line : List ℕ) (d : Desk) (h : Gap) (s : S
   cut-length n le = length-take-le n (held.below ++ held.above) (subst (λ (cs : List Card). n ≤ length cs) (sym held.whole) le)
 
   moved-held : (n : ℕ) (p : TextPlace) → length (take n (held.below ++ held.above)) ≡ n → step s line ≡ went (with_place s p) → Work v h (yanked s.lib 0) (take n (held.below ++ held.above)) (drop n (held.below ++ held.above))
-      → TextGoes s.lib (length (take n (held.below ++ held.above))) TextGap p → Answered v dir names decks flags (SteppedOn (moved_desk d h n)) (step s line)
-  moved-held n p cut e work goes = subst (λ (x : Step). Answered v dir names decks flags (SteppedOn (moved_desk d h n)) x) (sym e) new
+      → TextGoes s.lib (length (take n (held.below ++ held.above))) TextGap p → Answered v dir names decks flags (Ok (moved_desk d h n)) (step s line)
+  moved-held n p cut e work goes = subst (λ (x : Step). Answered v dir names decks flags (Ok (moved_desk d h n)) x) (sym e) new
     where
       safe : Safe (with_place s p)
       safe = subst (Went Safe) e (step-safe s line held.safe)
@@ -144,8 +143,8 @@ module _ (w v dir names decks flags line : List ℕ) (d : Desk) (h : Gap) (s : S
         safe = safe;
       }
 
-off : (w dir names decks flags : List ℕ) (y : Why) (r q : Step) → r ≡ q → q ≡ refused y → Answered w dir names decks flags (SteppedOff y) r
-off w dir names decks flags y r q e f = subst (λ (x : Step). Answered w dir names decks flags (SteppedOff y) x) (sym (e ∙ f)) refl
+off : (w dir names decks flags : List ℕ) (y : Why) (r q : Step) → r ≡ q → q ≡ refused y → Answered w dir names decks flags (Err y) r
+off w dir names decks flags y r q e f = subst (λ (x : Step). Answered w dir names decks flags (Err y) x) (sym (e ∙ f)) refl
 
 -- a correction: outside a set 24, else what it asks of the card
 abbrev ask : State → Bool → (Option Spot → Step) → Option Spot → Step
@@ -162,17 +161,17 @@ module _ (w dir : List ℕ) (d : Desk) (r : CardName) (v names decks flags line 
   unfolding step
   insert-obeyed b o e f = ap (obey s line) asks ∙ ap₂ (λ (x : Bool) (y : Option Spot). refuse (not x) Nowhere (insert_after s y)) (sym held.set ∙ e) f
 
-  insert-no-set : d.set ≡ false → Answered v dir names decks flags (SteppedOff Nowhere) (step s line)
+  insert-no-set : d.set ≡ false → Answered v dir names decks flags (Err Nowhere) (step s line)
   insert-no-set e = off v dir names decks flags Nowhere (step s line) _ (insert-obeyed false (find s.lib r) e refl) refl
 
   module _ (on : d.set ≡ true) (f : Sought) where
     insert-none : d.cards ≤ f.index → (o : Option Spot) → find s.lib r ≡ o → SoughtAs s.lib d.gap held.below held.above r f o
-        → Answered v dir names decks flags (SteppedOff NoCard) (step s line)
+        → Answered v dir names decks flags (Err NoCard) (step s line)
     insert-none le none e h = off v dir names decks flags NoCard (step s line) _ (insert-obeyed true none on e) refl
     insert-none le (some a) e h = absurd (omega (arith, h.index, none-index s.lib a h.stood, held.cards))
 
     insert-barred : f.index < d.cards → f.index < d.yanks → (o : Option Spot) → find s.lib r ≡ o → SoughtAs s.lib d.gap held.below held.above r f o
-        → Answered v dir names decks flags (SteppedOff Barred) (step s line)
+        → Answered v dir names decks flags (Err Barred) (step s line)
     insert-barred lt y none e h = absurd (omega (arith, h, held.cards))
     insert-barred lt y (some a) e h =
         off v dir names decks flags Barred (step s line) _ (insert-obeyed true (some a) on e)
@@ -180,7 +179,7 @@ module _ (w dir : List ℕ) (d : Desk) (r : CardName) (v names decks flags line 
         (yank-part-flat s.lib a h.stood ∙ ltb_yes (flat s.lib a) (length s.lib.yanks) (omega (arith, h.index, held.yanks))))
 
     insert-went : f.index < d.cards → d.yanks ≤ f.index → (g : Gap) → OpensAfter w d.gap f.at v g → (o : Option Spot) → find s.lib r ≡ o
-        → SoughtAs s.lib d.gap held.below held.above r f o → Answered v dir names decks flags (SteppedOn (moved_desk d g (f.index + 1))) (step s line)
+        → SoughtAs s.lib d.gap held.below held.above r f o → Answered v dir names decks flags (Ok (moved_desk d g (f.index + 1))) (step s line)
     insert-went lt y g opens none e h = absurd (omega (arith, h, held.cards))
     insert-went lt y g opens (some a) e h =
         let part : is_yank_part a ≡ false = yank-part-flat s.lib a h.stood ∙ ltb_no (flat s.lib a) (length s.lib.yanks) (omega (arith, h.index, held.yanks)) in
@@ -192,17 +191,17 @@ module _ (w dir : List ℕ) (d : Desk) (r : CardName) (v names decks flags line 
         (opens (yanked s.lib 0) held.below held.above f.index held.work h.stands here)
         (place-behind s.lib a.part a.index (length (take (f.index + 1) (held.below ++ held.above))) h.stood part (omega (arith, cut, h.index)))
 
-pub insert-off : (w dir : List ℕ) (d : Desk) (r : CardName) (v : List ℕ) → d.set ≡ false → InsertSteps w dir d r v (SteppedOff Nowhere)
+pub insert-off : (w dir : List ℕ) (d : Desk) (r : CardName) (v : List ℕ) → d.set ≡ false → InsertSteps w dir d r v (Err Nowhere)
 insert-off w dir d r v e names decks flags line s asks held = insert-no-set w dir d r v names decks flags line s asks held e
 
 module _ (w dir : List ℕ) (d : Desk) (r : CardName) (v : List ℕ) (on : d.set ≡ true) (f : Sought) (seeks : SeeksCard w dir d r f) where
-  pub insert-missing : d.cards ≤ f.index → InsertSteps w dir d r v (SteppedOff NoCard)
+  pub insert-missing : d.cards ≤ f.index → InsertSteps w dir d r v (Err NoCard)
   insert-missing le names decks flags line s asks held = insert-none w dir d r v names decks flags line s asks held on f le (find s.lib r) refl (seeks names decks flags s held)
 
-  pub insert-yanks : f.index < d.cards → f.index < d.yanks → InsertSteps w dir d r v (SteppedOff Barred)
+  pub insert-yanks : f.index < d.cards → f.index < d.yanks → InsertSteps w dir d r v (Err Barred)
   insert-yanks lt y names decks flags line s asks held = insert-barred w dir d r v names decks flags line s asks held on f lt y (find s.lib r) refl (seeks names decks flags s held)
 
-  pub insert-on : f.index < d.cards → d.yanks ≤ f.index → (g : Gap) → OpensAfter w d.gap f.at v g → InsertSteps w dir d r v (SteppedOn (moved_desk d g (f.index + 1)))
+  pub insert-on : f.index < d.cards → d.yanks ≤ f.index → (g : Gap) → OpensAfter w d.gap f.at v g → InsertSteps w dir d r v (Ok (moved_desk d g (f.index + 1)))
   insert-on lt y g opens names decks flags line s asks held = insert-went w dir d r v names decks flags line s asks held on f lt y g opens (find s.lib r) refl (seeks names decks flags s held)
 
 -- BEFORE
@@ -211,12 +210,12 @@ module _ (w dir : List ℕ) (d : Desk) (r : CardName) (v names decks flags line 
   unfolding step
   before-obeyed b o e f = ap (obey s line) asks ∙ ap₂ (λ (x : Bool) (y : Option Spot). refuse (not x) Nowhere (insert_before s y)) (sym held.set ∙ e) f
 
-  before-no-set : d.set ≡ false → Answered v dir names decks flags (SteppedOff Nowhere) (step s line)
+  before-no-set : d.set ≡ false → Answered v dir names decks flags (Err Nowhere) (step s line)
   before-no-set e = off v dir names decks flags Nowhere (step s line) _ (before-obeyed false (find s.lib r) e refl) refl
 
   module _ (on : d.set ≡ true) (f : Sought) where
     before-none : d.cards ≤ f.index → (o : Option Spot) → find s.lib r ≡ o → SoughtAs s.lib d.gap held.below held.above r f o
-        → Answered v dir names decks flags (SteppedOff NoCard) (step s line)
+        → Answered v dir names decks flags (Err NoCard) (step s line)
     before-none le none e h = off v dir names decks flags NoCard (step s line) _ (before-obeyed true none on e) refl
     before-none le (some a) e h = absurd (omega (arith, h.index, none-index s.lib a h.stood, held.cards))
 
@@ -226,13 +225,13 @@ module _ (w dir : List ℕ) (d : Desk) (r : CardName) (v names decks flags line 
         deck-spot-named s.lib held.safe.sound f.own r.seq a h.stood (h.index ∙ h.first) (omega (arith, h.first, held.cards))
         ∙ ap (λ (b : Bool). eqb r.seq 1 && b) (sym (held.tables.marked f.own))
 
-    barred : (a : Spot) → (is_yank_part a || is_deck_spot a) ≡ true → find s.lib r ≡ some a → Answered v dir names decks flags (SteppedOff Barred) (step s line)
+    barred : (a : Spot) → (is_yank_part a || is_deck_spot a) ≡ true → find s.lib r ≡ some a → Answered v dir names decks flags (Err Barred) (step s line)
     barred a q e =
         off v dir names decks flags Barred (step s line) _ (before-obeyed true (some a) on e)
         (ap (λ (b : Bool). refuse b Barred (went (with_place s (in_deck (a.part - 1) (a.index - 1))))) q)
 
     before-barred : f.index < d.cards → f.index < d.yanks → (o : Option Spot) → find s.lib r ≡ o → SoughtAs s.lib d.gap held.below held.above r f o
-        → Answered v dir names decks flags (SteppedOff Barred) (step s line)
+        → Answered v dir names decks flags (Err Barred) (step s line)
     before-barred lt y none e h = absurd (omega (arith, h, held.cards))
     before-barred lt y (some a) e h =
         barred a (ap (λ (b : Bool). b || is_deck_spot a)
@@ -243,12 +242,12 @@ module _ (w dir : List ℕ) (d : Desk) (r : CardName) (v names decks flags line 
     or-true false b e = e
 
     before-titled : f.index < d.cards → (eqb r.seq 1 && flagged decks f.own) ≡ true → (o : Option Spot) → find s.lib r ≡ o → SoughtAs s.lib d.gap held.below held.above r f o
-        → Answered v dir names decks flags (SteppedOff Barred) (step s line)
+        → Answered v dir names decks flags (Err Barred) (step s line)
     before-titled lt m none e h = absurd (omega (arith, h, held.cards))
     before-titled lt m (some a) e h = barred a (or-true (is_yank_part a) (is_deck_spot a) (is-titled lt a h ∙ m)) e
 
     before-went : f.index < d.cards → d.yanks ≤ f.index → (eqb r.seq 1 && flagged decks f.own) ≡ false → (g : Gap) → OpensAhead w d.gap f.at v g
-        → (o : Option Spot) → find s.lib r ≡ o → SoughtAs s.lib d.gap held.below held.above r f o → Answered v dir names decks flags (SteppedOn (moved_desk d g f.index)) (step s line)
+        → (o : Option Spot) → find s.lib r ≡ o → SoughtAs s.lib d.gap held.below held.above r f o → Answered v dir names decks flags (Ok (moved_desk d g f.index)) (step s line)
     before-went lt y m g opens none e h = absurd (omega (arith, h, held.cards))
     before-went lt y m g opens (some a) e h =
         let part : is_yank_part a ≡ false = yank-part-flat s.lib a h.stood ∙ ltb_no (flat s.lib a) (length s.lib.yanks) (omega (arith, h.index, held.yanks)) in
@@ -262,21 +261,21 @@ module _ (w dir : List ℕ) (d : Desk) (r : CardName) (v names decks flags line 
         (opens (yanked s.lib 0) held.below held.above f.index held.work h.stands here)
         (place-ahead s.lib a.part a.index (length (take f.index (held.below ++ held.above))) h.stood part index (omega (arith, cut, h.index)))
 
-pub before-off : (w dir decks : List ℕ) (d : Desk) (r : CardName) (v : List ℕ) → d.set ≡ false → BeforeSteps w dir decks d r v (SteppedOff Nowhere)
+pub before-off : (w dir decks : List ℕ) (d : Desk) (r : CardName) (v : List ℕ) → d.set ≡ false → BeforeSteps w dir decks d r v (Err Nowhere)
 before-off w dir decks d r v e names flags line s asks held = before-no-set w dir d r v names decks flags line s asks held e
 
 module _ (w dir decks : List ℕ) (d : Desk) (r : CardName) (v : List ℕ) (on : d.set ≡ true) (f : Sought) (seeks : SeeksCard w dir d r f) where
-  pub before-missing : d.cards ≤ f.index → BeforeSteps w dir decks d r v (SteppedOff NoCard)
+  pub before-missing : d.cards ≤ f.index → BeforeSteps w dir decks d r v (Err NoCard)
   before-missing le names flags line s asks held = before-none w dir d r v names decks flags line s asks held on f le (find s.lib r) refl (seeks names decks flags s held)
 
-  pub before-yanks : f.index < d.cards → f.index < d.yanks → BeforeSteps w dir decks d r v (SteppedOff Barred)
+  pub before-yanks : f.index < d.cards → f.index < d.yanks → BeforeSteps w dir decks d r v (Err Barred)
   before-yanks lt y names flags line s asks held = before-barred w dir d r v names decks flags line s asks held on f lt y (find s.lib r) refl (seeks names decks flags s held)
 
-  pub before-deck : f.index < d.cards → titled decks f.own r.seq ≡ true → BeforeSteps w dir decks d r v (SteppedOff Barred)
+  pub before-deck : f.index < d.cards → titled decks f.own r.seq ≡ true → BeforeSteps w dir decks d r v (Err Barred)
   before-deck lt m names flags line s asks held = before-titled w dir d r v names decks flags line s asks held on f lt m (find s.lib r) refl (seeks names decks flags s held)
 
   pub before_on : f.index < d.cards → d.yanks ≤ f.index → titled decks f.own r.seq ≡ false → (g : Gap) → OpensAhead w d.gap f.at v g
-      → BeforeSteps w dir decks d r v (SteppedOn (moved_desk d g f.index))
+      → BeforeSteps w dir decks d r v (Ok (moved_desk d g f.index))
   before_on lt y m g opens names flags line s asks held = before-went w dir d r v names decks flags line s asks held on f lt y m g opens (find s.lib r) refl (seeks names decks flags s held)
 
 -- the test in code: number 1, and then the flag

@@ -1,4 +1,5 @@
 -- A deck unit begins: its deck card stands at the stream's end, its name at the end of both tables.
+use Rattle.std.specs.Prelude.{Err}
 use Prim.Native.Nat.{ℕ, suc, ◌+◌, ◌-◌, ◌≤◌, ◌<◌}
 use native.Mathlib.Omega.{arith}
 use native.Mathlib.Numerals.{add-one}
@@ -33,7 +34,6 @@ use Rattle.run.specs.YankNames.{unknown_in}
 use Rattle.run.specs.declared.gap.Gap.{Gap}
 use Rattle.run.specs.declared.desk.Desk.{Desk}
 use Rattle.run.specs.declared.desk.TextAt.TheVariants.{Gap as TextGap}
-use Rattle.run.specs.declared.desk.Stepped.TheVariants.{Refused as SteppedOff}
 use Rattle.run_meaning.specs.declared.Why.TheVariants.{Known}
 use Rattle.run_meaning.proofs.FlatFind.{eqb_yes}
 use Rattle.run_meaning.proofs.FlatStream.{deck-flat}
@@ -200,9 +200,9 @@ module _ (w dir names decks : List ℕ) (d : Desk) (word : ℕ) (line mid : List
       (deck-obeyed s line common word false asks (known_is l (take d.entries dir) word true held.tables.directory unknown)) held.safe after
 
 pub deck-known : (w dir names decks : List ℕ) (d : Desk) (word : ℕ) (line v newDir newNames newDecks : List ℕ) → unknown_in (take d.entries dir) word ≡ false
-    → DeckSteps w dir names decks d word line v newDir newNames newDecks (SteppedOff Known)
+    → DeckSteps w dir names decks d word line v newDir newNames newDecks (Err Known)
 deck-known w dir names decks d word line v newDir newNames newDecks e common flags s asks held =
-    subst (λ (x : Step). Answered v newDir newNames newDecks flags (SteppedOff Known) x)
+    subst (λ (x : Step). Answered v newDir newNames newDecks flags (Err Known) x)
     (sym (deck-obeyed s line common word true asks (known_is s.lib (take d.entries dir) word false held.tables.directory e))) refl
 
 pub deck-on : (w dir names decks : List ℕ) (d : Desk) (word : ℕ) (line mid : List ℕ) (g : Gap) (v : List ℕ) (h : Gap) → Sane w d → 1023 < length dir → 255 < length names → 1024 < length decks

@@ -1,4 +1,5 @@
 -- A range ends with the card named, and Limit is answered exactly where a limit would be passed.
+use Rattle.std.specs.Prelude.{Result, Ok, Err}
 use Prim.Native.Nat.{ℕ, ◌+◌, ◌≤◌, ◌<◌}
 use native.Mathlib.Omega.{arith}
 use mathlib.Core.Path.{◌≡◌, refl, sym, ap, ◌∙◌}
@@ -8,7 +9,7 @@ use lib.Dec.{leb}
 use lib.ListN.{length, take, drop, length-append, take-append-drop}
 use lib.Seq.{take_all, drop_at, drop-drop}
 use borrow.Author.Tests.{le-leb, leb-true}
-use Rattle.run.specs.declared.marks.Marked.TheVariants.{Done, NoCard, Limit}
+use Rattle.run_meaning.specs.declared.Why.TheVariants.{NoCard, Limit}
 use Rattle.run.proofs.Walking.{cards-append, some-heads}
 use Rattle.run.proofs.Locating.{each_take, each-drop, lo-is, hi-is, run-above}
 use Rattle.run.proofs.Opening.{At, at_place, cards-split}
@@ -24,7 +25,7 @@ use Rattle.run.specs.Work.{Work, within, up_to, beyond_card, MarksTo}
 use Rattle.run.specs.declared.gap.Gap.{Gap}
 use Rattle.run.specs.declared.card.Seen.{Seen}
 use Rattle.run.specs.declared.seek.Place.{Place}
-use Rattle.run.specs.declared.marks.Marked.{Marked}
+use Rattle.run_meaning.specs.declared.Why.{Why}
 
 module _ (w : List ℕ) (g : Gap) (order : Ordered w g) (o s was n : ℕ) (low : n < 65536) (b : Place) (finds : Finds w g.hi (length w) o s b) where
   module _ (yk : ℕ → Bool) (cs1 cs2 : List Card) (k : Work w g yk cs1 cs2) where
@@ -74,7 +75,7 @@ module _ (w : List ℕ) (g : Gap) (order : Ordered w g) (o s was n : ℕ) (low :
           omega arith
 
   -- not found above the gap
-  pub to-missing : length w ≤ b.at → (v : List ℕ) (r : Marked) → r ≡ NoCard → MarksTo w g o s was n v r
+  pub to-missing : length w ≤ b.at → (v : List ℕ) (r : Result Gap Why) → r ≡ Err NoCard → MarksTo w g o s was n v r
   to-missing h v r e yk cs1 cs2 k free pos =
       record {
         missing = λ x. e;
@@ -83,7 +84,7 @@ module _ (w : List ℕ) (g : Gap) (order : Ordered w g) (o s was n : ℕ) (low :
       }
 
   module _ (c : Seen) (sees : SeesAny w b.at c) (here : b.at < length w) where
-    pub to-bad : length w < b.at + c.heads + c.count → (v : List ℕ) (r : Marked) → r ≡ NoCard → MarksTo w g o s was n v r
+    pub to-bad : length w < b.at + c.heads + c.count → (v : List ℕ) (r : Result Gap Why) → r ≡ Err NoCard → MarksTo w g o s was n v r
     to-bad h v r e yk cs1 cs2 k free pos =
         record { missing = λ x. e; limit = λ x y. absurd (no_way x); done = λ x y. absurd (no_way x) }
       where
@@ -142,7 +143,7 @@ module _ (w : List ℕ) (g : Gap) (order : Ordered w g) (o s was n : ℕ) (low :
       none_left : (yk : ℕ → Bool) (cs1 cs2 : List Card) → Work w g yk cs1 cs2 → length cs2 ≤ index_of o s cs2 → ⊥
       none_left yk cs1 cs2 k y = let e : b.at ≡ length w = out yk cs1 cs2 k y in omega arith
 
-      pub to-crowded : h.hi < h.lo → (r : Marked) → r ≡ Limit → MarksTo w g o s was n v r
+      pub to-crowded : h.hi < h.lo → (r : Result Gap Why) → r ≡ Err Limit → MarksTo w g o s was n v r
       to-crowded y r e yk cs1 cs2 k free pos =
           record {
             missing = λ x. absurd (none_left yk cs1 cs2 k x);
@@ -150,7 +151,7 @@ module _ (w : List ℕ) (g : Gap) (order : Ordered w g) (o s was n : ℕ) (low :
             done = λ x z. absurd (crowd yk cs1 cs2 k free x y z);
           }
 
-      pub to-done : h.lo ≤ h.hi → h.hi ≤ length v → length v ≡ length w → (r : Marked) → r ≡ Done h → MarksTo w g o s was n v r
+      pub to-done : h.lo ≤ h.hi → h.hi ≤ length v → length v ≡ length w → (r : Result Gap Why) → r ≡ Ok h → MarksTo w g o s was n v r
       to-done y top len r e yk cs1 cs2 k free pos =
           record {
             missing = λ x. absurd (none_left yk cs1 cs2 k x);

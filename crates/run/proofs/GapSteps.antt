@@ -6,33 +6,24 @@ use native.Mathlib.Numerals.{add-one}
 use mathlib.Core.Path.{◌≡◌, refl, sym, ap, ◌∙◌}
 use mathlib.Core.List.{List, [], ◌∷◌, ◌++◌, append_assoc, append-nil}
 use lib.ListN.{length, take, drop, get_or, set, length-set, length-drop, drop_of_length-le}
-use lib.Seq.{take-suc, take-suc-set, drop-set-lt, get_or-drop, drop-drop, get_or-take, drop-cons, drop_at, set_split, take-set-le, take-take, length-take-le}
+use lib.Seq.{take-suc, take-suc-set, drop-set-lt, get_or-drop, drop-drop, get_or-take, drop-cons, drop_at, set_split, take-set-le, take-take, length-take-le, paste, take_at}
 use borrow.Author.Tests.{eq-eqb, ne_eqb}
+use Rattle.std.proofs.lemmas.List.{drop-take}
+use Rattle.std.proofs.lemmas.List.Edits.{take-paste, drop-paste}
 use Rattle.run.specs.GapWords.{Lowered, Raised}
 use Rattle.run.specs.ByteMarks.{last_with, ByteAdded}
 
-pub lower-start : (w : List ℕ) (lo hi : ℕ) → Lowered w lo hi 0 w
-lower-start w lo hi = record { under = rw (add-zero lo) (sym (append-nil (take lo w))); over = refl }
-
-pub lower-more : (w : List ℕ) (lo hi i : ℕ) (v : List ℕ) → length v ≡ length w → lo ≤ hi → hi + i < length w → Lowered w lo hi i v
-    → Lowered w lo hi (i + 1) (set v (lo + i) (get_or v (hi + i) 0))
-lower-more w lo hi i v len order inside s =
-    let a : lo + i < length v = omega arith in
-    let read : get_or v (hi + i) 0 ≡ get_or (drop hi w) i 0 =
-    ap (λ (n : ℕ). get_or v n 0) (sym (add-zero (hi + i))) ∙ sym (get_or-drop (hi + i) v 0 0) ∙ ap (λ (l : List ℕ). get_or l 0 0) s.over
-    ∙ get_or-drop (hi + i) w 0 0 ∙ ap (λ (n : ℕ). get_or w n 0) (add-zero (hi + i)) ∙ sym (get_or-drop hi w i 0) in
-    let room : i < length (drop hi w) = rw length-drop (omega arith) in
-    let one : take (suc (lo + i)) (set v (lo + i) (get_or v (hi + i) 0)) ≡ take lo w ++ take (suc i) (drop hi w) =
-    take-suc-set v (lo + i) (get_or v (hi + i) 0) a ∙ (λ k. s.under k ++ (read k ∷ []))
-    ∙ append_assoc (take lo w) (take i (drop hi w)) (get_or (drop hi w) i 0 ∷ [])
-    ∙ ap (λ (l : List ℕ). take lo w ++ l) (sym (take-suc (drop hi w) i 0 room)) in
-    let far : lo + i < suc (hi + i) = omega arith in
-    let two : drop (suc (hi + i)) (set v (lo + i) (get_or v (hi + i) 0)) ≡ drop (suc (hi + i)) w =
-    drop-set-lt (suc (hi + i)) v (lo + i) (get_or v (hi + i) 0) far ∙ step v ∙ ap (λ (l : List ℕ). drop 1 l) s.over ∙ sym (step w) in
-    record { under = rw (add-one, add-suc) one; over = rw (add-one, add-suc) two }
-  where
-    step : (l : List ℕ) → drop (suc (hi + i)) l ≡ drop 1 (drop (hi + i) l)
-    step l = ap (λ (n : ℕ). drop n l) (sym (add-one (hi + i))) ∙ sym (drop-drop 1 (hi + i) l)
+pub lowered : (w v : List ℕ) (lo hi n : ℕ) → lo ≤ hi → hi + n ≤ length w → v ≡ paste w lo (drop hi w) (hi + n - hi) → Lowered w lo hi n v
+lowered w v lo hi n order room e =
+    let many : hi + n - hi ≡ n = omega arith in
+    let copied : v ≡ paste w lo (drop hi w) n = e ∙ ap (paste w lo (drop hi w)) many in
+    let long : length (drop hi w) ≡ length w - hi = length-drop hi w in
+    let far : hi + n ≡ lo + n + (hi - lo) = omega arith in
+    let past : drop (lo + n) v ≡ drop (lo + n) w = ap (drop (lo + n)) copied ∙ drop-paste w lo (drop hi w) n (omega arith) (omega arith) in
+    record {
+      under = ap (take (lo + n)) copied ∙ take-paste w lo (drop hi w) n (omega arith) (omega arith);
+      over = ap (λ (k : ℕ). drop k v) far ∙ sym (drop-drop (hi - lo) (lo + n) v) ∙ ap (drop (hi - lo)) past ∙ drop-drop (hi - lo) (lo + n) w ∙ ap (λ (k : ℕ). drop k w) (sym far);
+    }
 
 -- what one byte more makes of the last word
 module _ (x l : ℕ) where
@@ -91,33 +82,15 @@ module _ (w : List ℕ) (lo hi x : ℕ) (pos : 0 < lo) (order : lo ≤ hi) (room
         over = refl;
       }
 
-pub raise-start : (w : List ℕ) (lo hi : ℕ) → lo ≤ length w → Raised w lo hi 0 w
-raise-start w lo hi room =
-    let l : length (take lo w) ≤ lo = let e : length (take lo w) ≡ lo = length-take-le lo w room in omega arith in
-    record { under = refl; over = rw (sub-zero hi, sub-zero lo) (sym (ap (λ (t : List ℕ). t ++ drop hi w) (drop_of_length-le (take lo w) l))) }
-
-pub raise-more : (w : List ℕ) (lo hi i : ℕ) (v : List ℕ) → length v ≡ length w → i < lo → lo ≤ hi → hi ≤ length w → Raised w lo hi i v
-    → Raised w lo hi (i + 1) (set v (hi - (i + 1)) (get_or v (lo - (i + 1)) 0))
-raise-more w lo hi i v len below order room s =
-    let p : ℕ = lo - (i + 1) in
-    let q : ℕ = hi - (i + 1) in
-    let p1 : lo - i ≡ suc p = omega arith in
-    let q1 : hi - i ≡ suc q = omega arith in
-    let pq : p < hi - i = omega arith in
-    let a : ℕ = get_or v p 0 in
-    let read : a ≡ get_or w p 0 = sym (get_or-take (hi - i) v p 0 pq) ∙ ap (λ (t : List ℕ). get_or t p 0) s.under ∙ get_or-take (hi - i) w p 0 pq in
-    let inq : q < length v = omega arith in
-    let qq : q ≤ q = omega arith in
-    let qle : q ≤ hi - i = omega arith in
-    let plo : p < lo = omega arith in
-    let len2 : length (take lo w) ≡ lo = length-take-le lo w (omega arith) in
-    let inp : p < length (take lo w) = omega arith in
-    let src : drop p (take lo w) ≡ get_or w p 0 ∷ drop (lo - i) (take lo w) =
-    drop-cons (take lo w) p 0 inp ∙ (λ k. get_or-take lo w p 0 plo k ∷ drop (sym p1 k) (take lo w)) in
-    let dst : drop q (set v q a) ≡ a ∷ drop (hi - i) v =
-    ap (λ (t : List ℕ). drop q t) (set_split v q a inq) ∙ drop_at (take q v) (a ∷ drop (suc q) v) q (length-take-le q v (omega arith))
-    ∙ ap {B = List ℕ} (λ (k : ℕ). a ∷ drop k v) (sym q1) in
+pub raised : (w v : List ℕ) (lo hi n : ℕ) → n ≤ lo → lo ≤ hi → hi ≤ length w → v ≡ paste w (hi - n) (drop (lo - n) w) (lo - (lo - n)) → Raised w lo hi n v
+raised w v lo hi n below order room e =
+    let many : lo - (lo - n) ≡ n = omega arith in
+    let copied : v ≡ paste w (hi - n) (drop (lo - n) w) n = e ∙ ap (paste w (hi - n) (drop (lo - n) w)) many in
+    let long : length (take (hi - n) w) ≡ hi - n = length-take-le (hi - n) w (omega arith) in
+    let whole : hi - n + n ≡ hi = omega arith in
+    let count : lo - n + n ≡ lo = omega arith in
+    let split : v ≡ take (hi - n) w ++ (take n (drop (lo - n) w) ++ drop hi w) = copied ∙ append_assoc (take (hi - n) w) (take n (drop (lo - n) w)) _ ∙ ap (λ (k : ℕ). take (hi - n) w ++ (take n (drop (lo - n) w) ++ drop k w)) whole in
     record {
-      under = take-set-le q v q a qq ∙ sym (take-take q (hi - i) v qle) ∙ ap (λ (t : List ℕ). take q t) s.under ∙ take-take q (hi - i) w qle;
-      over = dst ∙ (λ k. read k ∷ s.over k) ∙ ap (λ (t : List ℕ). t ++ drop hi w) (sym src);
+      under = ap (take (hi - n)) split ∙ take_at (take (hi - n) w) _ (hi - n) long;
+      over = ap (drop (hi - n)) split ∙ drop_at (take (hi - n) w) _ (hi - n) long ∙ ap (λ (t : List ℕ). t ++ drop hi w) (sym (drop-take (lo - n) n w) ∙ ap (λ (k : ℕ). drop (lo - n) (take k w)) count);
     }

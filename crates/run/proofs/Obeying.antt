@@ -1,4 +1,6 @@
 -- What each step promises is what its line asks; a line that is refused or skipped changes no array.
+use Rattle.run_meaning.specs.declared.Why.{Why}
+use Rattle.std.specs.Prelude.{Result, Ok, Err}
 use Prim.Native.Nat.{ℕ}
 use mathlib.Core.Path.{◌≡◌, refl, sym, subst}
 use mathlib.Core.Bool.{Bool}
@@ -18,30 +20,28 @@ use Rattle.run.specs.Corrected.{InsertSteps, BeforeSteps}
 use Rattle.run.specs.Resettled.{MarkSteps, YankSteps, Arrays, AnsweredIn, ObeysLine, corrects, CorrectsLine}
 use Rattle.run.specs.Streamed.{in_arrays}
 use Rattle.run.specs.declared.desk.Desk.{Desk}
-use Rattle.run.specs.declared.desk.Stepped.{Stepped}
-use Rattle.run.specs.declared.desk.Stepped.TheVariants.{Went as SteppedOn, Refused as SteppedOff}
 use Rattle.run_meaning.specs.declared.Why.TheVariants.{Outside, Long, Malformed, NotCarried}
 
 -- a line that is skipped, and those that are refused for what they are
-pub skipped-obeys : (a : Arrays) (d : Desk) (line : List ℕ) → directive line ≡ Skipped → ObeysLine a d line a (SteppedOn d)
+pub skipped-obeys : (a : Arrays) (d : Desk) (line : List ℕ) → directive line ≡ Skipped → ObeysLine a d line a (Ok d)
 unfolding step
-skipped-obeys a d line e s held = subst (λ (x : Line). AnsweredIn a (SteppedOn d) (obey s line x)) (sym e) held
+skipped-obeys a d line e s held = subst (λ (x : Line). AnsweredIn a (Ok d) (obey s line x)) (sym e) held
 
-pub outside-obeys : (a : Arrays) (d : Desk) (line : List ℕ) → directive line ≡ LineOutside → ObeysLine a d line a (SteppedOff Outside)
+pub outside-obeys : (a : Arrays) (d : Desk) (line : List ℕ) → directive line ≡ LineOutside → ObeysLine a d line a (Err Outside)
 unfolding step
-outside-obeys a d line e s held = subst (λ (x : Line). AnsweredIn a (SteppedOff Outside) (obey s line x)) (sym e) refl
+outside-obeys a d line e s held = subst (λ (x : Line). AnsweredIn a (Err Outside) (obey s line x)) (sym e) refl
 
-pub long-obeys : (a : Arrays) (d : Desk) (line : List ℕ) → directive line ≡ LineLong → ObeysLine a d line a (SteppedOff Long)
+pub long-obeys : (a : Arrays) (d : Desk) (line : List ℕ) → directive line ≡ LineLong → ObeysLine a d line a (Err Long)
 unfolding step
-long-obeys a d line e s held = subst (λ (x : Line). AnsweredIn a (SteppedOff Long) (obey s line x)) (sym e) refl
+long-obeys a d line e s held = subst (λ (x : Line). AnsweredIn a (Err Long) (obey s line x)) (sym e) refl
 
-pub malformed-obeys : (a : Arrays) (d : Desk) (line : List ℕ) → directive line ≡ LineMalformed → ObeysLine a d line a (SteppedOff Malformed)
+pub malformed-obeys : (a : Arrays) (d : Desk) (line : List ℕ) → directive line ≡ LineMalformed → ObeysLine a d line a (Err Malformed)
 unfolding step
-malformed-obeys a d line e s held = subst (λ (x : Line). AnsweredIn a (SteppedOff Malformed) (obey s line x)) (sym e) refl
+malformed-obeys a d line e s held = subst (λ (x : Line). AnsweredIn a (Err Malformed) (obey s line x)) (sym e) refl
 
-pub carried-obeys : (a : Arrays) (d : Desk) (line : List ℕ) → directive line ≡ LineNotCarried → ObeysLine a d line a (SteppedOff NotCarried)
+pub carried-obeys : (a : Arrays) (d : Desk) (line : List ℕ) → directive line ≡ LineNotCarried → ObeysLine a d line a (Err NotCarried)
 unfolding step
-carried-obeys a d line e s held = subst (λ (x : Line). AnsweredIn a (SteppedOff NotCarried) (obey s line x)) (sym e) refl
+carried-obeys a d line e s held = subst (λ (x : Line). AnsweredIn a (Err NotCarried) (obey s line x)) (sym e) refl
 
 -- the kinds that an arm for all others is left with, by their numbers
 abbrev pub other_kinds : List ℕ
@@ -66,7 +66,7 @@ others-correct LineLong k = tt
 others-correct LineMalformed k = tt
 others-correct LineNotCarried k = tt
 
-pub last-obeys : (a : Arrays) (d : Desk) (line : List ℕ) (x : Line) → OneOf last_kinds (tag_of the_type x) → CorrectsLine a d line x a (SteppedOff NotCarried)
+pub last-obeys : (a : Arrays) (d : Desk) (line : List ℕ) (x : Line) → OneOf last_kinds (tag_of the_type x) → CorrectsLine a d line x a (Err NotCarried)
 last-obeys a d line Text k t e = absurd t
 last-obeys a d line Skipped k t e = absurd t
 last-obeys a d line (DeckLine· w) k t e = absurd t
@@ -83,7 +83,7 @@ last-obeys a d line LineMalformed k t e = absurd (miss last_kinds 12 tt k)
 last-obeys a d line LineNotCarried k t e = carried-obeys a d line e
 
 -- text, units, corrections
-module _ (w dir names decks flags : List ℕ) (d : Desk) (line : List ℕ) (r : Stepped) where
+module _ (w dir names decks flags : List ℕ) (d : Desk) (line : List ℕ) (r : Result Desk Why) where
   pub text-obeys : (v : List ℕ) → directive line ≡ Text → TextSteps w d line v r → ObeysLine (in_arrays w dir names decks flags) d line (in_arrays v dir names decks flags) r
   text-obeys v e h s held = h dir names decks flags s e held
 

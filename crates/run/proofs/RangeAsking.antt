@@ -1,4 +1,5 @@
 -- DELETE and RESTORE: both cards are sought, and the range is refused or marked as the definitions have it.
+use Rattle.std.specs.Prelude.{Result, Err}
 use Prim.Native.Nat.{ℕ, ◌≤◌, ◌<◌}
 use native.Mathlib.Omega.{arith}
 use mathlib.Core.Path.{◌≡◌, refl, sym, ap, ap₂, ◌∙◌, subst}
@@ -15,8 +16,6 @@ use Rattle.run.specs.Corrected.{SoughtAs, SeeksCard}
 use Rattle.run.specs.Resettled.{asks_mark, MarkSteps}
 use Rattle.run.specs.RangeSteps.{MarksFound}
 use Rattle.run.specs.declared.desk.Desk.{Desk}
-use Rattle.run.specs.declared.desk.Stepped.{Stepped}
-use Rattle.run.specs.declared.desk.Stepped.TheVariants.{Refused as SteppedOff}
 use Rattle.run.specs.declared.fixes.Sought.{Sought}
 use Rattle.run_meaning.specs.declared.Why.{Why}
 use Rattle.run_meaning.specs.declared.Why.TheVariants.{Nowhere, NoCard, Backwards, Barred}
@@ -36,22 +35,22 @@ module _ (w dir decks flags : List ℕ) (d : Desk) (was : ℕ) (p q : CardName) 
       ∙ ap (λ (c : Bool). refuse (not c) Nowhere (mark_range s (eqb was 1) (find s.lib p) (find s.lib q))) (sym held.set ∙ e)
       ∙ ap₂ (λ (a c : Option Spot). refuse (not b) Nowhere (mark_range s (eqb was 1) a c)) f g
 
-  off : (y : Why) (r : Step) → step s line ≡ r → r ≡ refused y → Answered v dir names decks newFlags (SteppedOff y) (step s line)
-  off y r e f = subst (λ (x : Step). Answered v dir names decks newFlags (SteppedOff y) x) (sym (e ∙ f)) refl
+  off : (y : Why) (r : Step) → step s line ≡ r → r ≡ refused y → Answered v dir names decks newFlags (Err y) (step s line)
+  off y r e f = subst (λ (x : Step). Answered v dir names decks newFlags (Err y) x) (sym (e ∙ f)) refl
 
-  no-set : d.set ≡ false → Answered v dir names decks newFlags (SteppedOff Nowhere) (step s line)
+  no-set : d.set ≡ false → Answered v dir names decks newFlags (Err Nowhere) (step s line)
   no-set e = off Nowhere _ (obeyed false (find s.lib p) (find s.lib q) e refl refl) refl
 
   module _ (on : d.set ≡ true) (f : Sought) where
     abbrev Is : CardName → Sought → Option Spot → Type 0
     Is r k o = SoughtAs s.lib d.gap held.below held.above r k o
 
-    no-first : d.cards ≤ f.index → (x : Option Spot) → find s.lib p ≡ x → Is p f x → Answered v dir names decks newFlags (SteppedOff NoCard) (step s line)
+    no-first : d.cards ≤ f.index → (x : Option Spot) → find s.lib p ≡ x → Is p f x → Answered v dir names decks newFlags (Err NoCard) (step s line)
     no-first le none e h = off NoCard _ (obeyed true none (find s.lib q) on e refl) refl
     no-first le (some a) e h = absurd (omega (arith, h.index, spot-below s.lib a h.stood, held.cards))
 
     module _ (k : Sought) where
-      no_last : d.cards ≤ k.index → (x y : Option Spot) → find s.lib p ≡ x → find s.lib q ≡ y → Is q k y → Answered v dir names decks newFlags (SteppedOff NoCard) (step s line)
+      no_last : d.cards ≤ k.index → (x y : Option Spot) → find s.lib p ≡ x → find s.lib q ≡ y → Is q k y → Answered v dir names decks newFlags (Err NoCard) (step s line)
       no_last le none y e g h = off NoCard _ (obeyed true none y on e g) refl
       no_last le (some a) none e g h = off NoCard _ (obeyed true (some a) none on e g) refl
       no_last le (some a) (some b) e g h = absurd (omega (arith, h.index, spot-below s.lib b h.stood, held.cards))
@@ -63,7 +62,7 @@ module _ (w dir decks flags : List ℕ) (d : Desk) (was : ℕ) (p q : CardName) 
       ranged a b c e x y = obeyed true (some a) (some b) on x y ∙ ap (λ (z : Bool). refuse z Backwards (rest a b)) e
 
       turned : f.index < d.cards → k.index < d.cards → k.index < f.index → (x y : Option Spot) → find s.lib p ≡ x → find s.lib q ≡ y → Is p f x → Is q k y
-          → Answered v dir names decks newFlags (SteppedOff Backwards) (step s line)
+          → Answered v dir names decks newFlags (Err Backwards) (step s line)
       turned m n lt none y e g h i = absurd (omega (arith, h, held.cards))
       turned m n lt (some a) none e g h i = absurd (omega (arith, i, held.cards))
       turned m n lt (some a) (some b) e g h i =
@@ -72,7 +71,7 @@ module _ (w dir decks flags : List ℕ) (d : Desk) (was : ℕ) (p q : CardName) 
       set_on : T (is_set s.kind)
       set_on = subst (λ (b : Bool). T b) (sym (sym held.set ∙ on)) tt
 
-      gone : (e : Stepped) → MarksFound w dir decks flags d was f k q.seq v newFlags e → f.index < d.cards → k.index < d.cards → f.index ≤ k.index
+      gone : (e : Result Desk Why) → MarksFound w dir decks flags d was f k q.seq v newFlags e → f.index < d.cards → k.index < d.cards → f.index ≤ k.index
           → (x y : Option Spot) → find s.lib p ≡ x → find s.lib q ≡ y → Is p f x → Is q k y → Answered v dir names decks newFlags e (step s line)
       gone r found m n le none y e g h i = absurd (omega (arith, h, held.cards))
       gone r found m n le (some a) none e g h i = absurd (omega (arith, i, held.cards))
@@ -86,25 +85,25 @@ same-card w dir d p q f n s first = subst (λ (r : CardName). SeeksCard w dir d 
 
 -- THE ANSWERS
 module _ (w dir decks flags : List ℕ) (d : Desk) (was : ℕ) (p q : CardName) (v newFlags : List ℕ) where
-  pub mark-off : d.set ≡ false → MarkSteps w dir decks flags d was p q v newFlags (SteppedOff Nowhere)
+  pub mark-off : d.set ≡ false → MarkSteps w dir decks flags d was p q v newFlags (Err Nowhere)
   mark-off e names line s asks held = no-set w dir decks flags d was p q v newFlags names line s asks held e
 
   module _ (on : d.set ≡ true) (f : Sought) (first : SeeksCard w dir d p f) where
-    pub mark-no-first : d.cards ≤ f.index → MarkSteps w dir decks flags d was p q v newFlags (SteppedOff NoCard)
+    pub mark-no-first : d.cards ≤ f.index → MarkSteps w dir decks flags d was p q v newFlags (Err NoCard)
     mark-no-first le names line s asks held =
         no-first w dir decks flags d was p q v newFlags names line s asks held on f le (find s.lib p) refl (first names decks flags s held)
 
     module _ (k : Sought) (last : SeeksCard w dir d q k) where
-      pub mark-no-last : d.cards ≤ k.index → MarkSteps w dir decks flags d was p q v newFlags (SteppedOff NoCard)
+      pub mark-no-last : d.cards ≤ k.index → MarkSteps w dir decks flags d was p q v newFlags (Err NoCard)
       mark-no-last le names line s asks held =
           no_last w dir decks flags d was p q v newFlags names line s asks held on f k le (find s.lib p) (find s.lib q) refl refl (last names decks flags s held)
 
-      pub mark-backwards : f.index < d.cards → k.index < d.cards → k.index < f.index → MarkSteps w dir decks flags d was p q v newFlags (SteppedOff Backwards)
+      pub mark-backwards : f.index < d.cards → k.index < d.cards → k.index < f.index → MarkSteps w dir decks flags d was p q v newFlags (Err Backwards)
       mark-backwards m n lt names line s asks held =
           turned w dir decks flags d was p q v newFlags names line s asks held on f k m n lt (find s.lib p) (find s.lib q) refl refl
           (first names decks flags s held) (last names decks flags s held)
 
-      pub mark_on : (e : Stepped) → MarksFound w dir decks flags d was f k q.seq v newFlags e → f.index < d.cards → k.index < d.cards → f.index ≤ k.index
+      pub mark_on : (e : Result Desk Why) → MarksFound w dir decks flags d was f k q.seq v newFlags e → f.index < d.cards → k.index < d.cards → f.index ≤ k.index
           → MarkSteps w dir decks flags d was p q v newFlags e
       mark_on e found m n le names line s asks held =
           gone w dir decks flags d was p q v newFlags names line s asks held on f k e found m n le (find s.lib p) (find s.lib q) refl refl

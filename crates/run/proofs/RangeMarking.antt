@@ -1,5 +1,6 @@
 -- A range that was found is barred, past a limit, or marked in place.
-use Rattle.std.specs.Prelude.{if◌then◌else◌}
+use Rattle.run_meaning.specs.declared.Why.{Why}
+use Rattle.std.specs.Prelude.{if◌then◌else◌, Result, Ok, Err}
 use Prim.Native.Nat.{ℕ, suc, ◌+◌, ◌-◌, ◌≤◌, ◌<◌}
 use native.Mathlib.Omega.{arith}
 use mathlib.Core.Path.{◌≡◌, refl, sym, ap, ap₂, ◌∙◌, subst, fun_ext}
@@ -27,12 +28,8 @@ use Rattle.run.specs.Desk.{fitted, Sane, moved_desk, TextGoes, Held, Answered}
 use Rattle.run.specs.Corrected.{SoughtAt}
 use Rattle.run.specs.RangeSteps.{is_title, HasTitle, Remarked, YankMarks, GoesOn, MarksFound}
 use Rattle.run.specs.declared.gap.Gap.{Gap}
-use Rattle.run.specs.declared.marks.Marked.{Marked}
-use Rattle.run.specs.declared.marks.Marked.TheVariants.{Done, NoCard as NoneMarked, Limit as OverLimit}
 use Rattle.run.specs.declared.desk.Desk.{Desk}
 use Rattle.run.specs.declared.desk.TextAt.TheVariants.{Gap as TextGap}
-use Rattle.run.specs.declared.desk.Stepped.{Stepped}
-use Rattle.run.specs.declared.desk.Stepped.TheVariants.{Refused as SteppedOff}
 use Rattle.run.specs.declared.fixes.Sought.{Sought}
 use Rattle.run_meaning.specs.declared.Why.TheVariants.{Barred, NoCard, Limit}
 use Rattle.run.proofs.Locating.{run-above}
@@ -111,12 +108,12 @@ module _ (w dir decks flags : List ℕ) (d : Desk) (was : ℕ) (f q : Sought) (s
       ∙ ap (λ (t : Card → Bool). any t (take (j - i + 1) (drop i cs))) (sym title-card)
       ∙ sym (titles yk (drop i cs) [] (run-above u h (order.0, omega (arith, order.1, half)) yk (take i cs) (drop i cs) ahead-work))
 
-  range-barred : HasTitle u decks h.hi (j - i + 1) true → (v newFlags : List ℕ) → Answered v dir names decks newFlags (SteppedOff Barred) (step s line)
+  range-barred : HasTitle u decks h.hi (j - i + 1) true → (v newFlags : List ℕ) → Answered v dir names decks newFlags (Err Barred) (step s line)
   range-barred titles v newFlags =
-      subst (λ (x : Step). Answered v dir names decks newFlags (SteppedOff Barred) x)
+      subst (λ (x : Step). Answered v dir names decks newFlags (Err Barred) x)
       (sym (obeyed ∙ ap (λ (x : Bool). refuse x Barred (limited (after_mark s (eqb was 1) a b))) (barred-is true titles))) refl
 
-  module _ (titles : HasTitle u decks h.hi (j - i + 1) false) (v : List ℕ) (r : Marked) (full : length v ≡ length w) (marked : MarksTo u h q.own seq was d.entries v r) where
+  module _ (titles : HasTitle u decks h.hi (j - i + 1) false) (v : List ℕ) (r : Result Gap Why) (full : length v ≡ length w) (marked : MarksTo u h q.own seq was d.entries v r) where
     abbrev t : State
     t = after_mark s (eqb was 1) a b
 
@@ -168,32 +165,28 @@ module _ (w dir decks flags : List ℕ) (d : Desk) (was : ℕ) (f q : Sought) (s
         let out : within_limits t.lib ≡ false = within-limit t.lib yk (take i (stream l)) mk na streamed (ap (λ (k : ℕ). within k yk (take i (stream l)) mk na) (sym n) ∙ e) in
         goes ∙ ap (λ (x : Bool). refuse (not x) Limit (went t)) out
 
-    range-over : r ≡ OverLimit → (newFlags : List ℕ) → Answered v dir names decks newFlags (SteppedOff Limit) (step s line)
-    range-over e newFlags = go inside refl
+    range-refused : (y : Why) → r ≡ Err y → (newFlags : List ℕ) → Answered v dir names decks newFlags (Err y) (step s line)
+    range-refused y e newFlags = go inside refl
       where
-        go : (x : Bool) → inside ≡ x → Answered v dir names decks newFlags (SteppedOff Limit) (step s line)
-        go true p = let k = found.done p in let g : r ≡ Done k.0 = k.1.0 in let z : ◌≡◌ {A = ℕ} 0 1 = cc in absurd (omega arith)
-        go false p = subst (λ (x : Step). Answered v dir names decks newFlags (SteppedOff Limit) x) (sym (over p)) refl
-
-    range-missed : r ≡ NoneMarked → (newFlags : List ℕ) → Answered v dir names decks newFlags (SteppedOff NoCard) (step s line)
-    range-missed e newFlags = go inside refl
-      where
-        go : (x : Bool) → inside ≡ x → Answered v dir names decks newFlags (SteppedOff NoCard) (step s line)
-        go true p = let k = found.done p in let g : r ≡ Done k.0 = k.1.0 in let z : ◌≡◌ {A = ℕ} 0 1 = cc in absurd (omega arith)
-        go false p = let g : r ≡ OverLimit = found.limit p in let z : ◌≡◌ {A = ℕ} 0 1 = cc in absurd (omega arith)
+        go : (x : Bool) → inside ≡ x → Answered v dir names decks newFlags (Err y) (step s line)
+        go true p = let k = found.done p in let g : r ≡ Ok k.0 = k.1.0 in absurd (cc)
+        go false p =
+            let g : r ≡ Err Limit = found.limit p in
+            let same : y ≡ Limit = cc in
+            subst (λ (x : Step). Answered v dir names decks newFlags (Err y) x) (sym (over p)) same
 
     -- THE RANGE MARKED
-    module _ (k : Gap) (done : r ≡ Done k) (ordered : Ordered u k) where
+    module _ (k : Gap) (done : r ≡ Ok k) (ordered : Ordered u k) where
       fits : (inside ≡ true) × Work v k yk nb na
       fits = go inside refl
         where
           go : (x : Bool) → inside ≡ x → (inside ≡ true) × Work v k yk nb na
           go true p =
               let m = found.done p in
-              let g : r ≡ Done m.0 = m.1.0 in
+              let g : r ≡ Ok m.0 = m.1.0 in
               let e : m.0 ≡ k = cc in
               (p, subst (λ (x : Gap). Work v x yk nb na) e m.1.1)
-          go false p = let g : r ≡ OverLimit = found.limit p in let z : ◌≡◌ {A = ℕ} 0 1 = cc in absurd (omega arith)
+          go false p = let g : r ≡ Err Limit = found.limit p in absurd (cc)
 
       new-order : Ordered v k
       new-order = (ordered.0, omega (arith, ordered.1, half, full))
@@ -305,26 +298,22 @@ module _ (w dir decks flags : List ℕ) (d : Desk) (was : ℕ) (f q : Sought) (s
               place = ap (λ (x : Bool). if x then in_yanks else in_deck (b.part - 1) b.index) (ap (λ (p : ℕ). eqb p 0) (sym one-part.0) ∙ first_part);
             }
 
-        range-yanks : (x newFlags : List ℕ) (e : Stepped) → YankMarks v dir d k x newFlags e → Answered x dir names decks newFlags e (step s line)
+        range-yanks : (x newFlags : List ℕ) (e : Result Desk Why) → YankMarks v dir d k x newFlags e → Answered x dir names decks newFlags e (step s line)
         range-yanks x newFlags e goes_on = goes_on yk names decks line s t held.safe goes remarked
 
 -- THE ANSWERS
 module _ (w dir decks flags : List ℕ) (d : Desk) (was : ℕ) (f q : Sought) (seq : ℕ) (sane : Sane w d) (le : f.index ≤ q.index)
     (u : List ℕ) (h : Gap) (half : length u ≡ length w) (order : Ordered w h) (opens : OpensAhead w d.gap f.at u h) where
-  pub found-barred : HasTitle u decks h.hi (q.index - f.index + 1) true → (v newFlags : List ℕ) → MarksFound w dir decks flags d was f q seq v newFlags (SteppedOff Barred)
+  pub found-barred : HasTitle u decks h.hi (q.index - f.index + 1) true → (v newFlags : List ℕ) → MarksFound w dir decks flags d was f q seq v newFlags (Err Barred)
   found-barred titles v newFlags names line s pn qn a b held set sq sa sb obeyed =
       range-barred w dir decks flags d was f q seq sane le u h half order opens names line s pn qn a b held set sq sa sb obeyed titles v newFlags
 
-  module _ (titles : HasTitle u decks h.hi (q.index - f.index + 1) false) (v : List ℕ) (r : Marked) (full : length v ≡ length w) (marked : MarksTo u h q.own seq was d.entries v r) where
-    pub found-over : r ≡ OverLimit → (newFlags : List ℕ) → MarksFound w dir decks flags d was f q seq v newFlags (SteppedOff Limit)
-    found-over e newFlags names line s pn qn a b held set sq sa sb obeyed =
-        range-over w dir decks flags d was f q seq sane le u h half order opens names line s pn qn a b held set sq sa sb obeyed titles v r full marked e newFlags
+  module _ (titles : HasTitle u decks h.hi (q.index - f.index + 1) false) (v : List ℕ) (r : Result Gap Why) (full : length v ≡ length w) (marked : MarksTo u h q.own seq was d.entries v r) where
+    pub found-refused : (y : Why) → r ≡ Err y → (newFlags : List ℕ) → MarksFound w dir decks flags d was f q seq v newFlags (Err y)
+    found-refused y e newFlags names line s pn qn a b held set sq sa sb obeyed =
+        range-refused w dir decks flags d was f q seq sane le u h half order opens names line s pn qn a b held set sq sa sb obeyed titles v r full marked y e newFlags
 
-    pub found-missed : r ≡ NoneMarked → (newFlags : List ℕ) → MarksFound w dir decks flags d was f q seq v newFlags (SteppedOff NoCard)
-    found-missed e newFlags names line s pn qn a b held set sq sa sb obeyed =
-        range-missed w dir decks flags d was f q seq sane le u h half order opens names line s pn qn a b held set sq sa sb obeyed titles v r full marked e newFlags
-
-    pub found-done : (k : Gap) → r ≡ Done k → Ordered u k → (x newFlags : List ℕ) (e : Stepped) → GoesOn v dir flags d f.index q.index k x newFlags e
+    pub found-done : (k : Gap) → r ≡ Ok k → Ordered u k → (x newFlags : List ℕ) (e : Result Desk Why) → GoesOn v dir flags d f.index q.index k x newFlags e
         → MarksFound w dir decks flags d was f q seq x newFlags e
     found-done k done ordered x newFlags e on names line s pn qn a b held set sq sa sb obeyed = go (leb d.yanks f.index) refl
       where
@@ -333,7 +322,7 @@ module _ (w dir decks flags : List ℕ) (d : Desk) (was : ℕ) (f q : Sought) (s
             let z = on.decks (leb-true d.yanks f.index y) in
             subst (λ (m : List ℕ). Answered m dir names decks newFlags e (step s line)) (sym z.0)
             (subst (λ (m : List ℕ). Answered v dir names decks m e (step s line)) (sym z.1.0)
-            (subst (λ (m : Stepped). Answered v dir names decks flags m (step s line)) (sym z.1.1)
+            (subst (λ (m : Result Desk Why). Answered v dir names decks flags m (step s line)) (sym z.1.1)
             (range-decks w dir decks flags d was f q seq sane le u h half order opens names line s pn qn a b held set sq sa sb obeyed titles v r full marked k done ordered (leb-true d.yanks f.index y))))
         go false y =
             let lt : f.index < d.yanks = leb-false d.yanks f.index y in

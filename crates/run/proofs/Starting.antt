@@ -1,4 +1,5 @@
 -- A unit begins: a known name is refused; a new one stands at the directory's end, and nothing else changes.
+use Rattle.std.specs.Prelude.{Err}
 use Prim.Native.Nat.{ℕ, ◌+◌, ◌-◌, ◌≤◌}
 use native.Mathlib.Omega.{arith}
 use native.Mathlib.Numerals.{add-one}
@@ -25,7 +26,6 @@ use Rattle.run.specs.Obeyed.{StaysSane, IdentSteps}
 use Rattle.run.specs.YankNames.{unknown_in}
 use Rattle.run.specs.declared.desk.Desk.{Desk}
 use Rattle.run.specs.declared.desk.TextAt.TheVariants.{Nowhere as TextNowhere}
-use Rattle.run.specs.declared.desk.Stepped.TheVariants.{Refused as SteppedOff}
 use Rattle.run_meaning.specs.declared.Why.TheVariants.{Known}
 use Rattle.run_meaning.proofs.FlatStream.{entry-flat}
 use Rattle.run_meaning.proofs.FlatFlags.{flags-entry}
@@ -43,9 +43,9 @@ ident-obeyed : (s : State) (line : List ℕ) (word : ℕ) (b : Bool) → directi
 unfolding step
 ident-obeyed s line word b asks e = ap (obey s line) asks ∙ ap (λ (x : Bool). refuse x Known (limited (after_ident s word))) e
 
-pub ident-known : (dir : List ℕ) (d : Desk) (word : ℕ) (new : List ℕ) → unknown_in (take d.entries dir) word ≡ false → IdentSteps dir d word new (SteppedOff Known)
+pub ident-known : (dir : List ℕ) (d : Desk) (word : ℕ) (new : List ℕ) → unknown_in (take d.entries dir) word ≡ false → IdentSteps dir d word new (Err Known)
 ident-known dir d word new e w names decks flags line s sane asks held =
-    subst (λ (x : Step). Answered w new names decks flags (SteppedOff Known) x)
+    subst (λ (x : Step). Answered w new names decks flags (Err Known) x)
     (sym (ident-obeyed s line word true asks (known_is s.lib (take d.entries dir) word false held.tables.directory e))) refl
 
 -- IDENT

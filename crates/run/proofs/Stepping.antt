@@ -1,5 +1,6 @@
 -- A step in code and the step of the definitions: the same limits, the same refusals, a state that is held.
-use Rattle.std.specs.Prelude.{if◌then◌else◌}
+use Rattle.run_meaning.specs.declared.Why.{Why}
+use Rattle.std.specs.Prelude.{if◌then◌else◌, Result, Ok, Err}
 use Prim.Native.Nat.{ℕ, ◌+◌, ◌-◌, ◌≤◌, ◌<◌}
 use native.Mathlib.Omega.{arith}
 use mathlib.Core.Path.{◌≡◌, refl, sym, ap, ◌∙◌, subst}
@@ -24,8 +25,6 @@ use Rattle.run.specs.Work.{Work}
 use Rattle.run.specs.Desk.{word_count, fit_tests, fitted, SaneAfter, Held, Answered}
 use Rattle.run.specs.declared.gap.Gap.{Gap}
 use Rattle.run.specs.declared.desk.Desk.{Desk}
-use Rattle.run.specs.declared.desk.Stepped.{Stepped}
-use Rattle.run.specs.declared.desk.Stepped.TheVariants.{Went as SteppedOn, Refused as SteppedOff}
 use Rattle.run_meaning.specs.declared.Why.TheVariants.{Limit}
 use Rattle.run_meaning.proofs.HoldsThrough.{Went}
 use Rattle.run_meaning.proofs.StepSound.{step-safe}
@@ -62,11 +61,11 @@ of-fits d f =
     ) in
     each-all_of (fit_tests d) (le→leb d.gap.lo d.gap.hi f.ordered, (k, tt))
 
-pub fitted-yes : (d : Desk) → Fitting d → fitted d ≡ SteppedOn d
-fitted-yes d f = ap (λ (b : Bool). if b then SteppedOn d else SteppedOff Limit) (T-true (all_of (fit_tests d)) (of-fits d f))
+pub fitted-yes : (d : Desk) → Fitting d → fitted d ≡ Ok d
+fitted-yes d f = ap (λ (b : Bool). if b then Ok d else Err Limit) (T-true (all_of (fit_tests d)) (of-fits d f))
 
-pub fitted-no : (d : Desk) → (Fitting d → ⊥) → fitted d ≡ SteppedOff Limit
-fitted-no d f = ap (λ (b : Bool). if b then SteppedOn d else SteppedOff Limit) (bool_iff (all_of (fit_tests d)) false (λ t. absurd (f (fits-of d t))) (λ t. absurd t))
+pub fitted-no : (d : Desk) → (Fitting d → ⊥) → fitted d ≡ Err Limit
+fitted-no d f = ap (λ (b : Bool). if b then Ok d else Err Limit) (bool_iff (all_of (fit_tests d)) false (λ t. absurd (f (fits-of d t))) (λ t. absurd t))
 
 -- the number of the next card
 pub number-after-is : (n : ℕ) → n ≤ 262143 → number_after n ≡ n + 1
@@ -75,14 +74,14 @@ number-after-is n h = rw (le-ltb 262143 n h)
 
 -- where the words fit the array, the counts say
 pub fitted-counts : (d : Desk) (b : Bool) → d.gap.lo ≤ d.gap.hi → within_counts d.entries (d.decks + 1) d.cards (word_count d) ≡ b
-    → fitted d ≡ (if b then SteppedOn d else SteppedOff Limit)
+    → fitted d ≡ (if b then Ok d else Err Limit)
 fitted-counts d true le e = rw (le-leb d.gap.lo d.gap.hi le, e)
 fitted-counts d false le e = rw (le-leb d.gap.lo d.gap.hi le, e)
 
 pub fitted-sane : (w : List ℕ) (d : Desk) → d.gap.hi ≤ length w → length w ≡ 65536 → d.next ≤ d.cards + 1 → d.yanks ≤ d.cards → d.low ≤ d.cards → SaneAfter w (fitted d)
 fitted-sane w d hi room next yanks low = go (all_of (fit_tests d)) (fits-of d)
   where
-    go : (b : Bool) → (T b → Fitting d) → SaneAfter w (if b then SteppedOn d else SteppedOff Limit)
+    go : (b : Bool) → (T b → Fitting d) → SaneAfter w (if b then Ok d else Err Limit)
     go true f =
         let h : Fitting d = f tt in
         record { ordered = (h.ordered, hi); room = room; entries = h.entries; decks = h.decks; cards = h.cards; next = next; yanks = yanks; low = low }
@@ -149,10 +148,10 @@ module _ (w dir names decks flags : List ℕ) (d : Desk) (t : State) (c : Counte
       go true q =
           let f : Fitting d = small-fitting (within-small t.lib (subst (λ (x : Bool). T x) (sym q) tt)) in
           let g : limited t ≡ went t = ap (λ (x : Bool). Rattle.run_meaning.specs.Step.refuse (not x) Limit (went t)) q in
-          subst (λ (x : Stepped). Answered w dir names decks flags x (limited t)) (sym (fitted-yes d f))
-          (subst (λ (x : Step). Answered w dir names decks flags (SteppedOn d) x) (sym g) (held f.ordered (kept g)))
+          subst (λ (x : Result Desk Why). Answered w dir names decks flags x (limited t)) (sym (fitted-yes d f))
+          (subst (λ (x : Step). Answered w dir names decks flags (Ok d) x) (sym g) (held f.ordered (kept g)))
       go false q =
           let off : Fitting d → ⊥ = λ f. let z : ◌≡◌ {A = Bool} true false = sym (small-within t.lib (fitting-small f)) ∙ q in subst (λ (x : Bool). T x) z tt in
           let g : limited t ≡ refused Limit = ap (λ (x : Bool). Rattle.run_meaning.specs.Step.refuse (not x) Limit (went t)) q in
-          subst (λ (x : Stepped). Answered w dir names decks flags x (limited t)) (sym (fitted-no d off))
-          (subst (λ (x : Step). Answered w dir names decks flags (SteppedOff Limit) x) (sym g) refl)
+          subst (λ (x : Result Desk Why). Answered w dir names decks flags x (limited t)) (sym (fitted-no d off))
+          (subst (λ (x : Step). Answered w dir names decks flags (Err Limit) x) (sym g) refl)

@@ -1,4 +1,5 @@
 -- What is left of a stream from a line on goes as the whole stream goes from the start.
+use Rattle.std.specs.Prelude.{Ok, Err}
 use Prim.Native.Nat.{ℕ, suc, ◌+◌, ◌≤◌, ◌<◌}
 use native.Mathlib.Omega.{arith}
 use mathlib.Core.Path.{◌≡◌, refl, sym, ap, ap₂, ◌∙◌, subst}
@@ -13,7 +14,6 @@ use Rattle.run.specs.Desk.{Sane}
 use Rattle.run.specs.Resettled.{Arrays, HeldIn, AnsweredIn, ObeysLine}
 use Rattle.run.specs.Streamed.{EndedIn, ObeysStream}
 use Rattle.run.specs.declared.desk.Desk.{Desk}
-use Rattle.run.specs.declared.desk.Stepped.TheVariants.{Went as SteppedOn, Refused as SteppedOff}
 use Rattle.run.specs.declared.streams.Ended.TheVariants.{Ended as EndedOn, Stopped as EndedOff}
 use Rattle.run_meaning.specs.declared.Why.{Why}
 
@@ -50,17 +50,17 @@ next_place bytes at lt short line is next after =
 
 -- what a step that was answered was
 module _ (b : Arrays) (t : Step) where
-  on-went : (e : Desk) → AnsweredIn b (SteppedOn e) t → (u : State) × ((t ≡ went u) × HeldIn b e u)
+  on-went : (e : Desk) → AnsweredIn b (Ok e) t → (u : State) × ((t ≡ went u) × HeldIn b e u)
   on-went e h = go t refl h
     where
-      go : (x : Step) → t ≡ x → AnsweredIn b (SteppedOn e) x → (u : State) × ((t ≡ went u) × HeldIn b e u)
+      go : (x : Step) → t ≡ x → AnsweredIn b (Ok e) x → (u : State) × ((t ≡ went u) × HeldIn b e u)
       go (went u) q h = (u, (q, h))
       go (refused z) q h = absurd h
 
-  off-refused : (y : Why) → AnsweredIn b (SteppedOff y) t → t ≡ refused y
+  off-refused : (y : Why) → AnsweredIn b (Err y) t → t ≡ refused y
   off-refused y h = go t refl h
     where
-      go : (x : Step) → t ≡ x → AnsweredIn b (SteppedOff y) x → t ≡ refused y
+      go : (x : Step) → t ≡ x → AnsweredIn b (Err y) x → t ≡ refused y
       go (went u) q h = absurd h
       go (refused z) q h = q ∙ ap refused (sym h)
 
@@ -76,7 +76,7 @@ module _ (a : Arrays) (d : Desk) (bytes : List ℕ) (b : Arrays) (e : Desk) (n a
     first t =
         ap (steps t n) (lines_more bytes at lt ∙ ap₂ (λ (x : List ℕ) (y : List ℕ). x ∷ lines y) (sym is) (after_line_lem bytes at ∙ ap (λ (x : List ℕ). drop (at + length x + 1) bytes) (sym is)))
 
-    on-more : (c : Arrays) (f : Desk) → ObeysLine b e line c (SteppedOn f) → Goes a d bytes c f (n + 1) (at + length line + 1)
+    on-more : (c : Arrays) (f : Desk) → ObeysLine b e line c (Ok f) → Goes a d bytes c f (n + 1) (at + length line + 1)
     on-more c f o s h =
         let r : Reached bytes b e n at s = g s h in
         let u : _ = on-went c (step r.now line) f (o r.now r.held) in
@@ -87,10 +87,10 @@ module _ (a : Arrays) (d : Desk) (bytes : List ℕ) (b : Arrays) (e : Desk) (n a
           same = r.same ∙ first r.now ∙ ap (λ (x : Step). onward x rest n) u.1.0 ∙ ap (λ (k : ℕ). steps u.0 k (lines (drop (at + length line + 1) bytes))) (omega arith);
         }
 
-    pub goes-more : (c : Arrays) (f : Desk) (next : ℕ) → next ≡ at + length line + 1 → ObeysLine b e line c (SteppedOn f) → Goes a d bytes c f (n + 1) next
+    pub goes-more : (c : Arrays) (f : Desk) (next : ℕ) → next ≡ at + length line + 1 → ObeysLine b e line c (Ok f) → Goes a d bytes c f (n + 1) next
     goes-more c f next q o = subst (Goes a d bytes c f (n + 1)) (sym q) (on-more c f o)
 
-    pub goes-stop : (c : Arrays) (y : Why) → ObeysLine b e line c (SteppedOff y) → ObeysStream a d bytes c (EndedOff y n)
+    pub goes-stop : (c : Arrays) (y : Why) → ObeysLine b e line c (Err y) → ObeysStream a d bytes c (EndedOff y n)
     goes-stop c y o s h =
         let r : Reached bytes b e n at s = g s h in
         let rest : State → Steps = λ x. steps x (suc n) (lines (drop (at + length line + 1) bytes)) in

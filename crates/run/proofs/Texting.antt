@@ -1,5 +1,5 @@
 -- A text line: the card put at the gap is the new card of the definitions at the flat place of the text.
-use Rattle.std.specs.Prelude.{if◌then◌else◌}
+use Rattle.std.specs.Prelude.{if◌then◌else◌, Err}
 use Prim.Native.Nat.{ℕ, zero, suc, ◌+◌, ◌-◌, ◌≤◌, ◌<◌}
 use native.Mathlib.Omega.{arith}
 use native.Mathlib.Numerals.{add-one}
@@ -35,7 +35,6 @@ use Rattle.run.specs.declared.gap.Gap.{Gap}
 use Rattle.run.specs.declared.desk.Desk.{Desk}
 use Rattle.run.specs.declared.desk.TextAt.{TextAt}
 use Rattle.run.specs.declared.desk.TextAt.TheVariants.{Nowhere as TextNowhere, Yanks as TextYanks, Gap as TextGap}
-use Rattle.run.specs.declared.desk.Stepped.TheVariants.{Refused as SteppedOff}
 use Rattle.run_meaning.specs.declared.Why.TheVariants.{Nowhere, Barred}
 use Rattle.run_meaning.proofs.SameDecks.{length-change}
 use Rattle.run_meaning.proofs.ChangedParts.{numbers-change}
@@ -124,20 +123,20 @@ module _ (w : List ℕ) (d : Desk) (line v dir names decks flags : List ℕ) (s 
   unfolding step
   obeyed p e = ap (obey s line) asks ∙ ap (put_text s line) e
 
-  text-nowhere : d.place ≡ TextNowhere → Answered v dir names decks flags (SteppedOff Nowhere) (step s line)
+  text-nowhere : d.place ≡ TextNowhere → Answered v dir names decks flags (Err Nowhere) (step s line)
   text-nowhere e = go s.place refl (subst (λ (a : TextAt). TextGoes s.lib (length held.below) a s.place) e held.place)
     where
-      go : (p : TextPlace) → s.place ≡ p → TextGoes s.lib (length held.below) TextNowhere p → Answered v dir names decks flags (SteppedOff Nowhere) (step s line)
-      go nowhere q h = subst (λ (x : Step). Answered v dir names decks flags (SteppedOff Nowhere) x) (sym (obeyed nowhere q)) refl
+      go : (p : TextPlace) → s.place ≡ p → TextGoes s.lib (length held.below) TextNowhere p → Answered v dir names decks flags (Err Nowhere) (step s line)
+      go nowhere q h = subst (λ (x : Step). Answered v dir names decks flags (Err Nowhere) x) (sym (obeyed nowhere q)) refl
       go in_yanks q h = absurd h
       go (in_deck k i) q h = absurd h
 
-  text-yanks : d.place ≡ TextYanks → Answered v dir names decks flags (SteppedOff Barred) (step s line)
+  text-yanks : d.place ≡ TextYanks → Answered v dir names decks flags (Err Barred) (step s line)
   text-yanks e = go s.place refl (subst (λ (a : TextAt). TextGoes s.lib (length held.below) a s.place) e held.place)
     where
-      go : (p : TextPlace) → s.place ≡ p → TextGoes s.lib (length held.below) TextYanks p → Answered v dir names decks flags (SteppedOff Barred) (step s line)
+      go : (p : TextPlace) → s.place ≡ p → TextGoes s.lib (length held.below) TextYanks p → Answered v dir names decks flags (Err Barred) (step s line)
       go nowhere q h = absurd h
-      go in_yanks q h = subst (λ (x : Step). Answered v dir names decks flags (SteppedOff Barred) x) (sym (obeyed in_yanks q)) refl
+      go in_yanks q h = subst (λ (x : Step). Answered v dir names decks flags (Err Barred) x) (sym (obeyed in_yanks q)) refl
       go (in_deck k i) q h = absurd h
 
 -- the state after it
@@ -220,10 +219,10 @@ module _ (w : List ℕ) (d : Desk) (line v : List ℕ) (h : Gap) (room : length 
   text-put : Answered v dir names decks flags (fitted (text_desk d h)) (step s line)
   text-put = limited-answer v dir names decks flags (text_desk d h) t counted s line (obeyed w d line v dir names decks flags s asks held (in_deck k i) at) held.safe after
 
-pub text-off : (w : List ℕ) (d : Desk) (line v : List ℕ) → d.place ≡ TextNowhere → TextSteps w d line v (SteppedOff Nowhere)
+pub text-off : (w : List ℕ) (d : Desk) (line v : List ℕ) → d.place ≡ TextNowhere → TextSteps w d line v (Err Nowhere)
 text-off w d line v e dir names decks flags s asks held = text-nowhere w d line v dir names decks flags s asks held e
 
-pub text-barred : (w : List ℕ) (d : Desk) (line v : List ℕ) → d.place ≡ TextYanks → TextSteps w d line v (SteppedOff Barred)
+pub text-barred : (w : List ℕ) (d : Desk) (line v : List ℕ) → d.place ≡ TextYanks → TextSteps w d line v (Err Barred)
 text-barred w d line v e dir names decks flags s asks held = text-yanks w d line v dir names decks flags s asks held e
 
 pub text-on : (w : List ℕ) (d : Desk) (line v : List ℕ) (h : Gap) → length w ≡ 65536 → length v ≡ 65536 → h.hi ≤ length w → PutsLine w d.gap line d.next d.entries v h

@@ -1,5 +1,5 @@
 -- YANK$$$ marked: all of it stands below the gap, and the bits are settled for the new flags.
-use Rattle.std.specs.Prelude.{if◌then◌else◌}
+use Rattle.std.specs.Prelude.{if◌then◌else◌, Result, Ok, Err}
 use Prim.Native.Nat.{ℕ, ◌+◌, ◌-◌, ◌≤◌}
 use native.Mathlib.Omega.{arith}
 use mathlib.Core.Path.{◌≡◌, sym, ap, ◌∙◌, subst}
@@ -21,8 +21,6 @@ use Rattle.run.specs.RangeSteps.{LeadAfter, Remarked, YankMarks}
 use Rattle.run.specs.declared.gap.Gap.{Gap}
 use Rattle.run.specs.declared.desk.Desk.{Desk}
 use Rattle.run.specs.declared.desk.TextAt.TheVariants.{Yanks as TextYanks}
-use Rattle.run.specs.declared.desk.Stepped.{Stepped}
-use Rattle.run.specs.declared.desk.Stepped.TheVariants.{Went as SteppedOn, Refused as SteppedOff}
 use Rattle.run_meaning.specs.declared.Why.{Why}
 use Rattle.run_meaning.specs.declared.Why.TheVariants.{Limit}
 use Rattle.run.proofs.Locating.{lo-is}
@@ -34,17 +32,17 @@ yank_desk d m =
     record { gap = m; low = d.yanks; entries = d.entries; decks = d.decks; cards = d.cards; yanks = d.yanks; lead = m.lo; set = d.set; next = d.next; place = TextYanks }
 
 -- what is within the limits is answered as it is
-fitted-same : (d e : Desk) → fitted d ≡ SteppedOn e → d ≡ e
+fitted-same : (d e : Desk) → fitted d ≡ Ok e → d ≡ e
 fitted-same d e q = go (all_of (fit_tests d)) q
   where
-    go : (b : Bool) → (if b then SteppedOn d else SteppedOff Limit) ≡ SteppedOn e → d ≡ e
+    go : (b : Bool) → (if b then Ok d else Err Limit) ≡ Ok e → d ≡ e
     go true p = cc
     go false p = let z : ◌≡◌ {A = ℕ} 0 1 = cc in absurd (omega arith)
 
-pub yank-lead : (d : Desk) (m : Gap) (e : Desk) → fitted (yank_desk d m) ≡ SteppedOn e → e.lead ≤ e.gap.lo
+pub yank-lead : (d : Desk) (m : Gap) (e : Desk) → fitted (yank_desk d m) ≡ Ok e → e.lead ≤ e.gap.lo
 yank-lead d m e q = subst (λ (x : Desk). x.lead ≤ x.gap.lo) (fitted-same (yank_desk d m) e q) (omega arith)
 
-pub yank-sane : (w v : List ℕ) (d : Desk) (m : Gap) (e : Desk) → Sane w d → length v ≡ length w → Ordered w m → fitted (yank_desk d m) ≡ SteppedOn e → Sane v e
+pub yank-sane : (w v : List ℕ) (d : Desk) (m : Gap) (e : Desk) → Sane w d → length v ≡ length w → Ordered w m → fitted (yank_desk d m) ≡ Ok e → Sane v e
 yank-sane w v d m e sane same o q =
     subst (SaneAfter v) q (fitted-sane v (yank_desk d m) (omega (arith, o.1, same)) (same ∙ sane.room) sane.next sane.yanks sane.yanks)
 
@@ -128,19 +126,19 @@ module _ (w dir : List ℕ) (d : Desk) (h : Gap) (room : length w ≡ 65536) (n 
         total = omega (arith, k.total, total);
       }
 
-  yank-off : (flags : List ℕ) (y : Why) → fitted (yank_desk d m) ≡ SteppedOff y → Answered v dir names decks flags (SteppedOff y) (step s line)
+  yank-off : (flags : List ℕ) (y : Why) → fitted (yank_desk d m) ≡ Err y → Answered v dir names decks flags (Err y) (step s line)
   yank-off flags y e =
-      subst (λ (x : Stepped). Answered v dir names decks flags x (step s line)) e
+      subst (λ (x : Result Desk Why). Answered v dir names decks flags x (step s line)) e
       (limited-answer v dir names decks flags (yank_desk d m) t (counted v same) s line obeyed safe
-      (λ le st. let f : fitted (yank_desk d m) ≡ SteppedOn (yank_desk d m) = fitted-yes (yank_desk d m) (fitting st) in let z : ◌≡◌ {A = ℕ} 0 1 = cc in absurd (omega arith)))
+      (λ le st. let f : fitted (yank_desk d m) ≡ Ok (yank_desk d m) = fitted-yes (yank_desk d m) (fitting st) in let z : ◌≡◌ {A = ℕ} 0 1 = cc in absurd (omega arith)))
 
 module _ (w dir : List ℕ) (d : Desk) (h : Gap) (room : length w ≡ 65536) (n : ℕ) (lead : LeadAfter (length w) d h n) (v : List ℕ) (m : Gap)
     (opens : OpensAt w h n v m) (same : length v ≡ length w) (order : Ordered w m) where
-  pub yank-went : (e : Desk) → fitted (yank_desk d m) ≡ SteppedOn e → (u flags : List ℕ) → length u ≡ length w → Resettled v dir e u flags → YankMarks w dir d h u flags (SteppedOn e)
+  pub yank-went : (e : Desk) → fitted (yank_desk d m) ≡ Ok e → (u flags : List ℕ) → length u ≡ length w → Resettled v dir e u flags → YankMarks w dir d h u flags (Ok e)
   yank-went e q u flags long settled yk names decks line s t safe obeyed r =
-      subst (λ (x : Stepped). Answered u dir names decks flags x (step s line)) q
+      subst (λ (x : Result Desk Why). Answered u dir names decks flags x (step s line)) q
       (yank-on w dir d h room n lead v m opens same order yk names decks line s t safe obeyed r u flags long
       (subst (λ (x : Desk). Resettled v dir x u flags) (sym (fitted-same (yank_desk d m) e q)) settled))
 
-  pub yank-refused : (y : Why) → fitted (yank_desk d m) ≡ SteppedOff y → (flags : List ℕ) → YankMarks w dir d h v flags (SteppedOff y)
+  pub yank-refused : (y : Why) → fitted (yank_desk d m) ≡ Err y → (flags : List ℕ) → YankMarks w dir d h v flags (Err y)
   yank-refused y q flags yk names decks line s t safe obeyed r = yank-off w dir d h room n lead v m opens same order yk names decks line s t safe obeyed r flags y q

@@ -1,5 +1,6 @@
 -- The card of a YANK line at the end of YANK$$$: once the bits are settled the new state is held.
-use Rattle.std.specs.Prelude.{if◌then◌else◌}
+use Rattle.run_meaning.specs.declared.Why.{Why}
+use Rattle.std.specs.Prelude.{if◌then◌else◌, Result, Ok, Err}
 use Prim.Native.Nat.{ℕ, suc, ◌+◌, ◌-◌, ◌≤◌, ◌<◌}
 use native.Mathlib.Omega.{arith}
 use native.Mathlib.Numerals.{add-one}
@@ -28,8 +29,6 @@ use Rattle.run.specs.YankNames.{LeadAfter, Settling, PutsYank}
 use Rattle.run.specs.declared.gap.Gap.{Gap}
 use Rattle.run.specs.declared.desk.Desk.{Desk}
 use Rattle.run.specs.declared.desk.TextAt.TheVariants.{Nowhere as TextNowhere}
-use Rattle.run.specs.declared.desk.Stepped.{Stepped}
-use Rattle.run.specs.declared.desk.Stepped.TheVariants.{Went as SteppedOn, Refused as SteppedOff}
 use Rattle.run_meaning.specs.declared.Why.TheVariants.{Limit}
 use Rattle.run_meaning.proofs.FlatStream.{yank-flat}
 use Rattle.run_meaning.proofs.FlatFlags.{unit-free}
@@ -47,7 +46,7 @@ yank_desk d h = yank_desk_at d h (d.next + 1)
 pub lead_after : (d : Desk) (h : Gap) → LeadAfter (fitted (yank_desk d h))
 lead_after d h = go (all_of (fit_tests (yank_desk d h)))
   where
-    go : (b : Bool) → LeadAfter (if b then SteppedOn (yank_desk d h) else SteppedOff Limit)
+    go : (b : Bool) → LeadAfter (if b then Ok (yank_desk d h) else Err Limit)
     go true = omega arith
     go false = tt
 
@@ -72,7 +71,7 @@ yank-tables dir names decks d e l ys p q t = record {
 
 -- WHAT NO LIBRARY IN WORK HAS: more words of YANK$$$ than the array
 module _ (w : List ℕ) (d : Desk) (line v : List ℕ) (sane : Sane w d) where
-  pub lead-over : length w < d.lead → PutsYank w d line v (SteppedOff Limit)
+  pub lead-over : length w < d.lead → PutsYank w d line v (Err Limit)
   lead-over over dir names decks flags u newFlags s asks held set goes same settling =
       let l : Library = s.lib in
       let yk : ℕ → Bool = yanked l 0 in
@@ -174,7 +173,7 @@ module _ (w : List ℕ) (d : Desk) (line mid : List ℕ) (g : Gap) (v : List ℕ
       }
 
   -- a state that is sound fits
-  fitting : h.lo ≤ h.hi → Safe t → fitted (yank_desk d h) ≡ SteppedOn (yank_desk d h)
+  fitting : h.lo ≤ h.hi → Safe t → fitted (yank_desk d h) ≡ Ok (yank_desk d h)
   fitting le safe =
       let small : Small t.lib = within-small t.lib safe.sound.limits in
       let e : words t.lib ≡ h.lo + (65536 - h.hi) = counted.fits le in
@@ -189,7 +188,7 @@ module _ (w : List ℕ) (d : Desk) (line mid : List ℕ) (g : Gap) (v : List ℕ
   yank-answer : Answered u dir names decks newFlags (fitted (yank_desk d h)) (step s line)
   yank-answer =
       limited-answer u dir names decks newFlags (yank_desk d h) t counted s line goes held.safe
-      (λ le safe. subst (λ (x : Stepped). Settling v dir x u newFlags) (fitting le safe) settling yk names decks t (under le safe))
+      (λ le safe. subst (λ (x : Result Desk Why). Settling v dir x u newFlags) (fitting le safe) settling yk names decks t (under le safe))
 
 pub yank-put : (w : List ℕ) (d : Desk) (line mid : List ℕ) (g : Gap) (v : List ℕ) (h : Gap) → Sane w d → OpensAt w d.gap d.lead mid g → length mid ≡ length w → length v ≡ 65536
     → h.hi ≤ length mid → PutsLine mid g line d.next d.entries v h → PutsYank w d line v (fitted (yank_desk d h))

@@ -1,4 +1,5 @@
 -- The names of a YANK line, one by one: 26 and 27 by the directory and the deck list, over the whole line.
+use Rattle.std.specs.Prelude.{Result, Err}
 use Prim.Native.Nat.{ℕ, ◌+◌}
 use mathlib.Core.Path.{◌≡◌, refl, sym, ap, ap₂, ◌∙◌, subst}
 use mathlib.Core.Bool.{Bool, true, false, ◌||◌, not}
@@ -17,8 +18,6 @@ use Rattle.run.specs.Desk.{Tables, Held, Answered}
 use Rattle.run.specs.Resettled.{YankSteps}
 use Rattle.run.specs.YankNames.{names_in, unknown_in, no_set_in, Settling, PutsYank}
 use Rattle.run.specs.declared.desk.Desk.{Desk}
-use Rattle.run.specs.declared.desk.Stepped.{Stepped}
-use Rattle.run.specs.declared.desk.Stepped.TheVariants.{Refused as SteppedOff}
 use Rattle.run_meaning.specs.declared.Why.{Why}
 use Rattle.run_meaning.specs.declared.Why.TheVariants.{Nowhere, Unknown, NoSet}
 use Rattle.run_meaning.proofs.FlatFind.{eqb_yes, eqb_no}
@@ -85,16 +84,16 @@ module _ (dir names decks : List ℕ) (d : Desk) (l : Library) (t : Tables dir n
 -- the answers: 24, 26, 27
 module _ (w dir names flags : List ℕ) (d : Desk) (line v newFlags : List ℕ) where
   refused-so : (y : Why) → ((decks : List ℕ) (s : State) → directive line ≡ YankLine → Held w dir names decks flags d s → step s line ≡ refused y)
-      → YankSteps w dir names flags d line v newFlags (SteppedOff y)
-  refused-so y f decks s asks held = subst (λ (x : Step). Answered v dir names decks newFlags (SteppedOff y) x) (sym (f decks s asks held)) refl
+      → YankSteps w dir names flags d line v newFlags (Err y)
+  refused-so y f decks s asks held = subst (λ (x : Step). Answered v dir names decks newFlags (Err y) x) (sym (f decks s asks held)) refl
 
-  pub yank-off : d.set ≡ false → YankSteps w dir names flags d line v newFlags (SteppedOff Nowhere)
+  pub yank-off : d.set ≡ false → YankSteps w dir names flags d line v newFlags (Err Nowhere)
   yank-off e =
       refused-so Nowhere (λ decks s asks held.
       yank-obeyed s line asks false (any (is_unknown s.lib) (yank_names line)) (any (is_no_set s.lib) (yank_names line)) (sym held.set ∙ e) refl refl)
 
   module _ (set : d.set ≡ true) where
-    pub yank-unknown : any (unknown_in (take d.entries dir)) (names_in (field line)) ≡ true → YankSteps w dir names flags d line v newFlags (SteppedOff Unknown)
+    pub yank-unknown : any (unknown_in (take d.entries dir)) (names_in (field line)) ≡ true → YankSteps w dir names flags d line v newFlags (Err Unknown)
     yank-unknown e =
         refused-so Unknown (λ decks s asks held.
         yank-obeyed s line asks true true (any (is_no_set s.lib) (yank_names line)) (sym held.set ∙ set)
@@ -102,7 +101,7 @@ module _ (w dir names flags : List ℕ) (d : Desk) (line v newFlags : List ℕ) 
 
     module _ (known : any (unknown_in (take d.entries dir)) (names_in (field line)) ≡ false) where
       pub yank-no-set : any (no_set_in d.entries (take d.entries dir) (take (d.decks + 1) names)) (names_in (field line)) ≡ true
-          → YankSteps w dir names flags d line v newFlags (SteppedOff NoSet)
+          → YankSteps w dir names flags d line v newFlags (Err NoSet)
       yank-no-set e =
           refused-so NoSet (λ decks s asks held.
           yank-obeyed s line asks true false true (sym held.set ∙ set)
@@ -117,5 +116,5 @@ module _ (w dir names flags : List ℕ) (d : Desk) (line v newFlags : List ℕ) 
 
       -- the line is then a card, and once the bits are settled the new state is held
       pub yank-on : any (no_set_in d.entries (take d.entries dir) (take (d.decks + 1) names)) (names_in (field line)) ≡ false
-          → (mid : List ℕ) (e : Stepped) → PutsYank w d line mid e → length v ≡ 65536 → Settling mid dir e v newFlags → YankSteps w dir names flags d line v newFlags e
+          → (mid : List ℕ) (e : Result Desk Why) → PutsYank w d line mid e → length v ≡ 65536 → Settling mid dir e v newFlags → YankSteps w dir names flags d line v newFlags e
       yank-on free mid e puts room settling decks s asks held = puts dir names decks flags v newFlags s asks held set (yank-goes free decks s asks held) room settling

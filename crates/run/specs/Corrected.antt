@@ -2,7 +2,8 @@
 --   a card sought    SoughtAt, SoughtAs, SeeksCard
 --   a deck card      titled
 --   INSERT, BEFORE   InsertSteps, BeforeSteps
-use Rattle.std.specs.Prelude.{ℕ, ◌≡◌, Bool, ◌&&◌, List, eqb, length}
+use Rattle.run_meaning.specs.declared.Why.{Why}
+use Rattle.std.specs.Prelude.{ℕ, ◌≡◌, Bool, ◌&&◌, List, eqb, length, Result}
 use Rattle.std.proofs.Math.Option.{Option, none, some}
 use Rattle.words_lines.specs.Directive.{directive}
 use Rattle.words_lines.specs.declared.CardName.{CardName}
@@ -16,7 +17,6 @@ use Rattle.run.specs.Work.{Stands}
 use Rattle.run.specs.Desk.{Held, Answered}
 use Rattle.run.specs.declared.gap.Gap.{Gap}
 use Rattle.run.specs.declared.desk.Desk.{Desk}
-use Rattle.run.specs.declared.desk.Stepped.{Stepped}
 use Rattle.run.specs.declared.fixes.Sought.{Sought}
 
 -- the card at a spot: its index in the stream, the word it begins at, its owner's number
@@ -40,10 +40,10 @@ SeeksCard w dir d r f =
 abbrev pub titled : List ℕ → ℕ → ℕ → Bool
 titled decks own seq = eqb seq 1 && flagged decks own
 
-abbrev pub InsertSteps : List ℕ → List ℕ → Desk → CardName → List ℕ → Stepped → Type 0
+abbrev pub InsertSteps : List ℕ → List ℕ → Desk → CardName → List ℕ → Result Desk Why → Type 0
 InsertSteps w dir d r v e =
     (names decks flags line : List ℕ) (s : State) → directive line ≡ Insert r → Held w dir names decks flags d s → Answered v dir names decks flags e (step s line)
 
-abbrev pub BeforeSteps : List ℕ → List ℕ → List ℕ → Desk → CardName → List ℕ → Stepped → Type 0
+abbrev pub BeforeSteps : List ℕ → List ℕ → List ℕ → Desk → CardName → List ℕ → Result Desk Why → Type 0
 BeforeSteps w dir decks d r v e =
     (names flags line : List ℕ) (s : State) → directive line ≡ Before r → Held w dir names decks flags d s → Answered v dir names decks flags e (step s line)

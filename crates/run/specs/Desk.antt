@@ -4,7 +4,8 @@
 --   where text goes      moved_desk, TextGoes
 --   the relation         Tables, Held, HeldUnder
 --   a step               Answered
-use Rattle.std.specs.Prelude.{ℕ, ◌+◌, ◌-◌, ◌≤◌, ◌≡◌, Bool, List, [], ◌∷◌, ◌++◌, leb, length, take, if◌then◌else◌}
+use Rattle.run_meaning.specs.declared.Why.{Why}
+use Rattle.std.specs.Prelude.{ℕ, ◌+◌, ◌-◌, ◌≤◌, ◌≡◌, Bool, List, [], ◌∷◌, ◌++◌, leb, length, take, if◌then◌else◌, Result, Ok, Err}
 use Rattle.words.specs.Base.{all_of, member}
 use Rattle.library.specs.Library.{Card, Library, stream, deck_names}
 use Rattle.library.specs.Yanks.{yanked}
@@ -20,8 +21,6 @@ use Rattle.run.specs.declared.gap.Gap.{Gap}
 use Rattle.run.specs.declared.desk.Desk.{Desk}
 use Rattle.run.specs.declared.desk.TextAt.{TextAt}
 use Rattle.run.specs.declared.desk.TextAt.TheVariants.{Nowhere as TextNowhere, Yanks as TextYanks, Gap as TextGap}
-use Rattle.run.specs.declared.desk.Stepped.{Stepped}
-use Rattle.run.specs.declared.desk.Stepped.TheVariants.{Went as SteppedOn, Refused as SteppedOff}
 use Rattle.run_meaning.specs.declared.Why.TheVariants.{Limit}
 
 -- the words of the library: the header with YANK$$$ in the deck list, the tables, the cards on both sides of the gap
@@ -32,8 +31,8 @@ word_count d = 3 + d.entries + d.decks + d.gap.lo + (65536 - d.gap.hi)
 abbrev pub fit_tests : Desk → List Bool
 fit_tests d = leb d.gap.lo d.gap.hi ∷ within_counts d.entries (d.decks + 1) d.cards (word_count d) ∷ []
 
-abbrev pub fitted : Desk → Stepped
-fitted d = if all_of (fit_tests d) then SteppedOn d else SteppedOff Limit
+abbrev pub fitted : Desk → Result Desk Why
+fitted d = if all_of (fit_tests d) then Ok d else Err Limit
 
 -- what keeps the code safe, whatever the state stands for
 pub record Sane (w : List ℕ) (d : Desk) : Type 0 where
@@ -46,9 +45,9 @@ pub record Sane (w : List ℕ) (d : Desk) : Type 0 where
   pub yanks : d.yanks ≤ d.cards
   pub low : d.low ≤ d.cards
 
-abbrev pub SaneAfter : List ℕ → Stepped → Type 0
-SaneAfter w (SteppedOn d) = Sane w d
-SaneAfter w (SteppedOff y) = Unit {0}
+abbrev pub SaneAfter : List ℕ → Result Desk Why → Type 0
+SaneAfter w (Ok d) = Sane w d
+SaneAfter w (Err y) = Unit {0}
 
 -- the gap moved, n cards below it: text goes there
 abbrev pub moved_desk : Desk → Gap → ℕ → Desk
@@ -109,8 +108,8 @@ pub record HeldUnder (yk : ℕ → Bool) (w dir names decks : List ℕ) (d : Des
   pub safe : Safe s
 
 -- A STEP: it is refused for the same reason, or the new state is held
-abbrev pub Answered : List ℕ → List ℕ → List ℕ → List ℕ → List ℕ → Stepped → Step → Type 0
-Answered w dir names decks flags (SteppedOn d) (went t) = Held w dir names decks flags d t
-Answered w dir names decks flags (SteppedOff y) (refused z) = y ≡ z
-Answered w dir names decks flags (SteppedOn d) (refused z) = ⊥
-Answered w dir names decks flags (SteppedOff y) (went t) = ⊥
+abbrev pub Answered : List ℕ → List ℕ → List ℕ → List ℕ → List ℕ → Result Desk Why → Step → Type 0
+Answered w dir names decks flags (Ok d) (went t) = Held w dir names decks flags d t
+Answered w dir names decks flags (Err y) (refused z) = y ≡ z
+Answered w dir names decks flags (Ok d) (refused z) = ⊥
+Answered w dir names decks flags (Err y) (went t) = ⊥

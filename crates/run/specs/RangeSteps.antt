@@ -3,7 +3,8 @@
 --   the words of YANK$$$     LeadAfter
 --   YANK$$$ marked           Remarked, YankMarks
 --   a range that was found   GoesOn, MarksFound
-use Rattle.std.specs.Prelude.{ℕ, ◌+◌, ◌-◌, ◌≤◌, ◌<◌, ◌≡◌, Bool, List, ◌++◌, T, eqb, length, take}
+use Rattle.run_meaning.specs.declared.Why.{Why}
+use Rattle.std.specs.Prelude.{ℕ, ◌+◌, ◌-◌, ◌≤◌, ◌<◌, ◌≡◌, Bool, List, ◌++◌, T, eqb, length, take, Result}
 use Rattle.words.specs.Base.{any, all}
 use Rattle.words_lines.specs.declared.CardName.{CardName}
 use Rattle.library.specs.Library.{Card, stream}
@@ -16,7 +17,6 @@ use Rattle.run.specs.Desk.{fitted, moved_desk, Tables, Held, Answered}
 use Rattle.run.specs.Corrected.{titled, SoughtAt}
 use Rattle.run.specs.declared.gap.Gap.{Gap}
 use Rattle.run.specs.declared.desk.Desk.{Desk}
-use Rattle.run.specs.declared.desk.Stepped.{Stepped}
 use Rattle.run.specs.declared.fixes.Sought.{Sought}
 use Rattle.run_meaning.specs.declared.Why.TheVariants.{Barred}
 
@@ -49,18 +49,18 @@ pub record Remarked (yk : ℕ → Bool) (w dir names decks : List ℕ) (d : Desk
   pub next : d.next ≡ t.next
   pub place : t.place ≡ in_yanks
 
-abbrev pub YankMarks : List ℕ → List ℕ → Desk → Gap → List ℕ → List ℕ → Stepped → Type 0
+abbrev pub YankMarks : List ℕ → List ℕ → Desk → Gap → List ℕ → List ℕ → Result Desk Why → Type 0
 YankMarks w dir d h v newFlags e =
     (yk : ℕ → Bool) (names decks line : List ℕ) (s t : State) → Safe s → step s line ≡ limited t → Remarked yk w dir names decks d h t
     → Answered v dir names decks newFlags e (step s line)
 
 -- A RANGE MARKED, the gap then being k: in YANK$$$ the bits are settled, and else text goes to the gap
-pub record GoesOn (w dir flags : List ℕ) (d : Desk) (first last : ℕ) (k : Gap) (v newFlags : List ℕ) (e : Stepped) : Type 0 where
+pub record GoesOn (w dir flags : List ℕ) (d : Desk) (first last : ℕ) (k : Gap) (v newFlags : List ℕ) (e : Result Desk Why) : Type 0 where
   pub yanks : first < d.yanks → YankMarks w dir d k v newFlags e
   pub decks : d.yanks ≤ first → (v ≡ w) × ((newFlags ≡ flags) × (e ≡ fitted (moved_desk d k (last + 1))))
 
 -- A RANGE THAT WAS FOUND, in a set and not backwards
-abbrev pub MarksFound : List ℕ → List ℕ → List ℕ → List ℕ → Desk → ℕ → Sought → Sought → ℕ → List ℕ → List ℕ → Stepped → Type 0
+abbrev pub MarksFound : List ℕ → List ℕ → List ℕ → List ℕ → Desk → ℕ → Sought → Sought → ℕ → List ℕ → List ℕ → Result Desk Why → Type 0
 MarksFound w dir decks flags d was f l seq v newFlags e =
     (names line : List ℕ) (s : State) (p q : CardName) (a b : Spot) (held : Held w dir names decks flags d s) → T (is_set s.kind) → seq ≡ q.seq
     → SoughtAt s.lib d.gap held.below held.above p f a → SoughtAt s.lib d.gap held.below held.above q l b

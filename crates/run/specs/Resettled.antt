@@ -3,7 +3,8 @@
 --   DELETE, RESTORE    asks_mark, MarkSteps
 --   YANK               YankSteps
 --   any line           Arrays, HeldIn, AnsweredIn, ObeysLine, corrects, CorrectsLine
-use Rattle.std.specs.Prelude.{ℕ, ◌≡◌, Bool, true, false, List, T, eqb}
+use Rattle.run_meaning.specs.declared.Why.{Why}
+use Rattle.std.specs.Prelude.{ℕ, ◌≡◌, Bool, true, false, List, T, eqb, Result}
 use Rattle.words_lines.specs.Directive.{directive}
 use Rattle.words_lines.specs.declared.CardName.{CardName}
 use Rattle.words_lines.specs.declared.Line.{Line}
@@ -11,7 +12,6 @@ use Rattle.words_lines.specs.declared.Line.TheVariants.{Text, Skipped, Deck as D
 use Rattle.run_meaning.specs.Step.{State, Step, step}
 use Rattle.run.specs.Desk.{Held, HeldUnder, Answered}
 use Rattle.run.specs.declared.desk.Desk.{Desk}
-use Rattle.run.specs.declared.desk.Stepped.{Stepped}
 
 -- whatever flags the words had the bits of, they have those of the yanked sets afterwards
 abbrev pub Resettled : List ℕ → List ℕ → Desk → List ℕ → List ℕ → Type 0
@@ -23,12 +23,12 @@ abbrev pub asks_mark : Bool → CardName → CardName → Line
 asks_mark true a b = Delete a b
 asks_mark false a b = Restore a b
 
-abbrev pub MarkSteps : List ℕ → List ℕ → List ℕ → List ℕ → Desk → ℕ → CardName → CardName → List ℕ → List ℕ → Stepped → Type 0
+abbrev pub MarkSteps : List ℕ → List ℕ → List ℕ → List ℕ → Desk → ℕ → CardName → CardName → List ℕ → List ℕ → Result Desk Why → Type 0
 MarkSteps w dir decks flags d was a b v newFlags e =
     (names line : List ℕ) (s : State) → directive line ≡ asks_mark (eqb was 1) a b → Held w dir names decks flags d s
     → Answered v dir names decks newFlags e (step s line)
 
-abbrev pub YankSteps : List ℕ → List ℕ → List ℕ → List ℕ → Desk → List ℕ → List ℕ → List ℕ → Stepped → Type 0
+abbrev pub YankSteps : List ℕ → List ℕ → List ℕ → List ℕ → Desk → List ℕ → List ℕ → List ℕ → Result Desk Why → Type 0
 YankSteps w dir names flags d line v newFlags e =
     (decks : List ℕ) (s : State) → directive line ≡ YankLine → Held w dir names decks flags d s → Answered v dir names decks newFlags e (step s line)
 
@@ -43,10 +43,10 @@ pub record Arrays : Type 0 where
 abbrev pub HeldIn : Arrays → Desk → State → Type 0
 HeldIn a d s = Held a.words a.dir a.names a.decks a.flags d s
 
-abbrev pub AnsweredIn : Arrays → Stepped → Step → Type 0
+abbrev pub AnsweredIn : Arrays → Result Desk Why → Step → Type 0
 AnsweredIn a r t = Answered a.words a.dir a.names a.decks a.flags r t
 
-abbrev pub ObeysLine : Arrays → Desk → List ℕ → Arrays → Stepped → Type 0
+abbrev pub ObeysLine : Arrays → Desk → List ℕ → Arrays → Result Desk Why → Type 0
 ObeysLine a d line b r = (s : State) → HeldIn a d s → AnsweredIn b r (step s line)
 
 -- a line that is no text, is not skipped and starts no unit: a correction, or one that is refused for what it is
@@ -66,5 +66,5 @@ corrects Long = true
 corrects Malformed = true
 corrects NotCarried = true
 
-abbrev pub CorrectsLine : Arrays → Desk → List ℕ → Line → Arrays → Stepped → Type 0
+abbrev pub CorrectsLine : Arrays → Desk → List ℕ → Line → Arrays → Result Desk Why → Type 0
 CorrectsLine a d line asked b r = T (corrects asked) → directive line ≡ asked → ObeysLine a d line b r

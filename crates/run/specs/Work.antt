@@ -5,7 +5,7 @@
 --   a new card              PutCard, PutsCard
 --   DELETE, RESTORE         within, up_to, beyond_card, KeepsOrder, MarkedTo, MarksTo, range_of, MarkedBetween
 --   bits settled again      Resettles
-use Rattle.std.specs.Prelude.{ℕ, ◌+◌, ◌-◌, ◌≤◌, ◌<◌, ◌≡◌, Bool, true, false, ◌&&◌, List, [], ◌∷◌, ◌++◌, T, leb, length, take, drop}
+use Rattle.std.specs.Prelude.{ℕ, ◌+◌, ◌-◌, ◌≤◌, ◌<◌, ◌≡◌, Bool, true, false, ◌&&◌, List, [], ◌∷◌, ◌++◌, T, leb, length, take, drop, Result, Ok, Err}
 use Rattle.words.specs.Base.{all}
 use Rattle.words.specs.Text.{text_words}
 use Rattle.library.specs.Each.{Each}
@@ -18,8 +18,8 @@ use Rattle.run.specs.GapWords.{Ordered, Parted}
 use Rattle.run.specs.ByteMarks.{mark_all}
 use Rattle.run.specs.declared.gap.Gap.{Gap}
 use Rattle.run.specs.declared.seek.Place.{Place}
-use Rattle.run.specs.declared.marks.Marked.{Marked}
-use Rattle.run.specs.declared.marks.Marked.TheVariants.{Done, NoCard, Limit}
+use Rattle.run_meaning.specs.declared.Why.{Why}
+use Rattle.run_meaning.specs.declared.Why.TheVariants.{NoCard, Limit}
 
 -- THE LIBRARY IN WORK: cs1 stand below the gap, cs2 above it
 pub record Work (w : List ℕ) (g : Gap) (yk : ℕ → Bool) (cs1 cs2 : List Card) : Type 0 where
@@ -84,19 +84,18 @@ abbrev pub beyond_card : ℕ → ℕ → List Card → List Card
 beyond_card o s cs = drop (index_of o s cs + 1) cs
 
 -- the gap that is answered is one
-abbrev pub KeepsOrder : List ℕ → Marked → Type 0
-KeepsOrder w (Done h) = Ordered w h
-KeepsOrder w NoCard = Unit {0}
-KeepsOrder w Limit = Unit {0}
+abbrev pub KeepsOrder : List ℕ → Result Gap Why → Type 0
+KeepsOrder w (Ok h) = Ordered w h
+KeepsOrder w (Err y) = Unit {0}
 
-pub record MarkedTo (w : List ℕ) (yk : ℕ → Bool) (cs1 cs2 : List Card) (o s was n : ℕ) (v : List ℕ) (r : Marked) : Type 0 where
-  pub missing : length cs2 ≤ index_of o s cs2 → r ≡ NoCard
-  pub limit : index_of o s cs2 < length cs2 → within (length w) yk cs1 (mark_all yk was n (up_to o s cs2)) (beyond_card o s cs2) ≡ false → r ≡ Limit
+pub record MarkedTo (w : List ℕ) (yk : ℕ → Bool) (cs1 cs2 : List Card) (o s was n : ℕ) (v : List ℕ) (r : Result Gap Why) : Type 0 where
+  pub missing : length cs2 ≤ index_of o s cs2 → r ≡ Err NoCard
+  pub limit : index_of o s cs2 < length cs2 → within (length w) yk cs1 (mark_all yk was n (up_to o s cs2)) (beyond_card o s cs2) ≡ false → r ≡ Err Limit
   pub done :
       index_of o s cs2 < length cs2 → within (length w) yk cs1 (mark_all yk was n (up_to o s cs2)) (beyond_card o s cs2) ≡ true
-      → (h : Gap) × ((r ≡ Done h) × Work v h yk (cs1 ++ mark_all yk was n (up_to o s cs2)) (beyond_card o s cs2))
+      → (h : Gap) × ((r ≡ Ok h) × Work v h yk (cs1 ++ mark_all yk was n (up_to o s cs2)) (beyond_card o s cs2))
 
-abbrev pub MarksTo : List ℕ → Gap → ℕ → ℕ → ℕ → ℕ → List ℕ → Marked → Type 0
+abbrev pub MarksTo : List ℕ → Gap → ℕ → ℕ → ℕ → ℕ → List ℕ → Result Gap Why → Type 0
 MarksTo w g o s was n v r = (yk : ℕ → Bool) (cs1 cs2 : List Card) → Work w g yk cs1 cs2 → yk n ≡ false → 0 < n → MarkedTo w yk cs1 cs2 o s was n v r
 
 -- the cards from index i up to index j
@@ -104,11 +103,11 @@ abbrev pub range_of : ℕ → ℕ → List Card → List Card
 range_of i j cs = take (j + 1 - i) (drop i cs)
 
 -- the same of all cards, from the one of index i, directly above the gap, up to the one named, of index j: the gap then stands directly after the range
-pub record MarkedBetween (w : List ℕ) (yk : ℕ → Bool) (cs : List Card) (i j was n : ℕ) (v : List ℕ) (r : Marked) : Type 0 where
-  pub limit : within (length w) yk (take i cs) (mark_all yk was n (range_of i j cs)) (drop (j + 1) cs) ≡ false → r ≡ Limit
+pub record MarkedBetween (w : List ℕ) (yk : ℕ → Bool) (cs : List Card) (i j was n : ℕ) (v : List ℕ) (r : Result Gap Why) : Type 0 where
+  pub limit : within (length w) yk (take i cs) (mark_all yk was n (range_of i j cs)) (drop (j + 1) cs) ≡ false → r ≡ Err Limit
   pub done :
       within (length w) yk (take i cs) (mark_all yk was n (range_of i j cs)) (drop (j + 1) cs) ≡ true
-      → (h : Gap) × ((r ≡ Done h) × Work v h yk (take i cs ++ mark_all yk was n (range_of i j cs)) (drop (j + 1) cs))
+      → (h : Gap) × ((r ≡ Ok h) × Work v h yk (take i cs ++ mark_all yk was n (range_of i j cs)) (drop (j + 1) cs))
 
 -- BITS SETTLED AGAIN
 abbrev pub Resettles : List ℕ → Gap → (ℕ → Bool) → List ℕ → Type 0

@@ -34,12 +34,6 @@ pub(crate) struct Desk {
     pub(crate) place: TextAt,
 }
 
-#[derive(Clone, Copy)]
-pub(crate) enum Stepped {
-    Went(Desk),
-    Refused(Why),
-}
-
 // The words of a library's header with YANK$$$ in the deck list.
 pub(crate) const AHEAD: usize = 3;
 
@@ -49,30 +43,24 @@ pub(crate) fn moved(d: Desk, g: Gap, low: usize) -> Desk
 {
     Desk {
         gap: g,
-        low: low,
-        entries: d.entries,
-        decks: d.decks,
-        cards: d.cards,
-        yanks: d.yanks,
-        lead: d.lead,
-        set: d.set,
-        next: d.next,
+        low,
         place: TextAt::Gap,
+        ..d
     }
 }
 
 // 31: a limit of rows 1, 3 or 5 would be passed.
-pub(crate) fn limited(d: Desk) -> Stepped
+pub(crate) fn limited(d: Desk) -> Result<Desk, Why>
     requires { (d.gap.hi ≤ 65536) × ((d.gap.lo ≤ 131072) × ((d.entries ≤ 2000) × (d.decks ≤ 2000))) }
     ensures { result ≡ fitted d }
 {
     let g = d.gap;
     if g.hi < g.lo {
-        return Stepped::Refused(Why::Limit);
+        return Err(Why::Limit);
     }
     let words = AHEAD + d.entries + d.decks + g.lo + (MOST_WORDS - g.hi);
     if library::within_limits(d.entries, d.decks + 1, d.cards, words) {
-        return Stepped::Went(d);
+        return Ok(d);
     }
-    Stepped::Refused(Why::Limit)
+    Err(Why::Limit)
 }

@@ -3,7 +3,7 @@ ghost use Rattle.std.specs.Prelude.{◌≡◌, ◌≤◌, ◌<◌, length};
 ghost use Rattle.run.specs.Desk.{Sane, SaneAfter};
 ghost use Rattle.run.specs.Corrected.{titled, SeeksCard, InsertSteps, BeforeSteps};
 
-use crate::desk::{Desk, Stepped, moved};
+use crate::desk::{Desk, moved};
 use crate::gap::{open_after, open_ahead};
 use crate::seek::locate;
 use crate::starts::entry_of;
@@ -42,24 +42,24 @@ pub(crate) fn seek_card(w: &[u64], dir: &[u64], d: Desk, r: CardName) -> Sought
 }
 
 // INSERT: the gap is placed after the card.
-pub(crate) fn insert_step(w: &mut [u64], dir: &[u64], d: Desk, r: CardName) -> Stepped
+pub(crate) fn insert_step(w: &mut [u64], dir: &[u64], d: Desk, r: CardName) -> Result<Desk, Why>
     requires { Sane w.old d × (length dir.now ≡ 1024) }
     ensures sane_after { SaneAfter w.new result }
     ensures insert_steps { InsertSteps w.old dir.now d r w.new result }
 {
     if !d.set {
-        return Stepped::Refused(Why::Nowhere);
+        return Err(Why::Nowhere);
     }
     let f = seek_card(w, dir, d, r);
     if d.cards <= f.index {
-        return Stepped::Refused(Why::NoCard);
+        return Err(Why::NoCard);
     }
     if f.index < d.yanks {
-        return Stepped::Refused(Why::Barred);
+        return Err(Why::Barred);
     }
     let g = d.gap;
     let h = open_after(w, g, f.at);
-    Stepped::Went(moved(d, h, f.index + 1))
+    Ok(moved(d, h, f.index + 1))
 }
 
 // Whether a deck's card has this owner and number: flag n is not 0 where n is a deck's.
@@ -86,25 +86,25 @@ pub(crate) fn before_step(
     decks: &[u64],
     d: Desk,
     r: CardName,
-) -> Stepped
+) -> Result<Desk, Why>
     requires { Sane w.old d × ((length dir.now ≡ 1024) × (1024 < length decks.now)) }
     ensures sane_after { SaneAfter w.new result }
     ensures before_steps { BeforeSteps w.old dir.now decks.now d r w.new result }
 {
     if !d.set {
-        return Stepped::Refused(Why::Nowhere);
+        return Err(Why::Nowhere);
     }
     let f = seek_card(w, dir, d, r);
     if d.cards <= f.index {
-        return Stepped::Refused(Why::NoCard);
+        return Err(Why::NoCard);
     }
     if f.index < d.yanks {
-        return Stepped::Refused(Why::Barred);
+        return Err(Why::Barred);
     }
     if is_title(decks, f.own, r.seq) {
-        return Stepped::Refused(Why::Barred);
+        return Err(Why::Barred);
     }
     let g = d.gap;
     let h = open_ahead(w, g, f.at);
-    Stepped::Went(moved(d, h, f.index))
+    Ok(moved(d, h, f.index))
 }

@@ -17,11 +17,7 @@ pub(crate) fn lower(w: &mut [u64], lo: usize, hi: usize, n: usize)
     requires { (lo ≤ hi) × (hi + n ≤ length w.old) }
     ensures { Lowered w.old lo hi n w.new }
 {
-    let mut i: usize = 0;
-    while i < n {
-        w[lo + i] = w[hi + i];
-        i += 1;
-    }
+    w.copy_within(hi..hi + n, lo);
 }
 
 // n words from below the gap go above it.
@@ -29,11 +25,7 @@ fn raise(w: &mut [u64], lo: usize, hi: usize, n: usize)
     requires { (n ≤ lo) × ((lo ≤ hi) × (hi ≤ length w.old)) }
     ensures { Raised w.old lo hi n w.new }
 {
-    let mut i: usize = 0;
-    while i < n {
-        i += 1;
-        w[hi - i] = w[lo - i];
-    }
+    w.copy_within(lo - n..lo, hi - n);
 }
 
 // The gap is moved to the word p: below `lo`, or from `hi` on.

@@ -8,6 +8,7 @@ use crate::card::{is_full, see, with_active};
 use crate::gap::{Gap, lower};
 use crate::seek::find;
 use library::{ACTIVATING, FIELD, LAST, UPPER};
+use run_meaning::Why;
 
 // One byte more in the history whose last word is directly below `lo`: it takes a place in that word, or a word of its own.
 // Answers where the history ends, which is past `hi` where there is no room.
@@ -113,16 +114,9 @@ fn mark_range(w: &mut [u64], g: Gap, stop: usize, was: u64, n: u64) -> Gap
     h
 }
 
-// What marking a range answers: the gap, now directly after the range, or why not (28, 31).
-#[derive(Clone, Copy)]
-pub(crate) enum Marked {
-    Done(Gap),
-    NoCard,
-    Limit,
-}
-
-// DELETE (was 1) and RESTORE (was 0) by the set n, over the cards from the gap up to the one with this owner and number.
-pub(crate) fn mark_to(w: &mut [u64], g: Gap, owner: u64, seq: u64, was: u64, n: u64) -> Marked
+// DELETE (was 1) and RESTORE (was 0) by the set n, over the cards from the gap up to the one with this owner and number: the gap, now directly after
+// that card, or why not (28, 31).
+pub(crate) fn mark_to(w: &mut [u64], g: Gap, owner: u64, seq: u64, was: u64, n: u64) -> Result<Gap, Why>
     requires { Ordered w.old g × ((length w.old ≤ 65536) × ((n < 65536) × (was < 2))) }
     ensures keeps_order { KeepsOrder w.old result }
     ensures marks_to { MarksTo w.old g owner seq was n w.new result }
@@ -132,16 +126,16 @@ pub(crate) fn mark_to(w: &mut [u64], g: Gap, owner: u64, seq: u64, was: u64, n: 
     let b = find(w, hi, end, owner, seq);
     let at = b.at;
     if end <= at {
-        return Marked::NoCard;
+        return Err(Why::NoCard);
     }
     let c = see(w, at);
     let stop = at + c.heads + c.count;
     if end < stop {
-        return Marked::NoCard;
+        return Err(Why::NoCard);
     }
     let h = mark_range(w, g, stop, was, n);
     if h.hi < h.lo {
-        return Marked::Limit;
+        return Err(Why::Limit);
     }
-    Marked::Done(h)
+    Ok(h)
 }

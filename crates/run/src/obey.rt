@@ -4,7 +4,7 @@ ghost use Rattle.run.specs.Desk.{Sane, SaneAfter};
 ghost use Rattle.run.specs.Streamed.{in_arrays};
 ghost use Rattle.run.specs.Resettled.{CorrectsLine, ObeysLine};
 
-use crate::desk::{Desk, Stepped};
+use crate::desk::{Desk};
 use crate::fixes::{before_step, insert_step};
 use crate::ranges::mark_step;
 use crate::starts::{deck_step, ident_step};
@@ -23,7 +23,7 @@ fn correct_line(
     d: Desk,
     line: &[u8],
     asked: Line,
-) -> Stepped
+) -> Result<Desk, Why>
     requires { Sane w.old d × ((length dir.now ≡ 1024) × ((255 < length names.now) × ((1024 < length decks.now) × (1024 < length flags.old)))) }
     ensures sane_after { SaneAfter w.new result }
     ensures corrects_line { CorrectsLine (in_arrays w.old dir.now names.now decks.now flags.old) d line.now asked (in_arrays w.new dir.now names.now decks.now flags.new) result }
@@ -34,10 +34,10 @@ fn correct_line(
         Line::Delete(a, b) => mark_step(w, dir, decks, flags, d, 1, a, b),
         Line::Restore(a, b) => mark_step(w, dir, decks, flags, d, 0, a, b),
         Line::Yank => yank_step(w, dir, names, flags, d, line),
-        Line::Outside => Stepped::Refused(Why::Outside),
-        Line::Long => Stepped::Refused(Why::Long),
-        Line::Malformed => Stepped::Refused(Why::Malformed),
-        _ => Stepped::Refused(Why::NotCarried),
+        Line::Outside => Err(Why::Outside),
+        Line::Long => Err(Why::Long),
+        Line::Malformed => Err(Why::Malformed),
+        _ => Err(Why::NotCarried),
     }
 }
 
@@ -49,7 +49,7 @@ pub(crate) fn obey_line(
     flags: &mut [u64],
     d: Desk,
     line: &[u8],
-) -> Stepped
+) -> Result<Desk, Why>
     requires { Sane w.old d × ((length dir.old ≡ 1024) × ((255 < length names.old) × ((1024 < length decks.old) × (1024 < length flags.old)))) }
     ensures sane_after { SaneAfter w.new result }
     ensures obeys_line { ObeysLine (in_arrays w.old dir.old names.old decks.old flags.old) d line.now (in_arrays w.new dir.new names.new decks.new flags.new) result }
@@ -57,7 +57,7 @@ pub(crate) fn obey_line(
     let asked = words_lines_asked::directive(line);
     match asked {
         Line::Text => text_step(w, d, line),
-        Line::Skipped => Stepped::Went(d),
+        Line::Skipped => Ok(d),
         Line::Deck(word) | Line::Comdeck(word) => deck_step(w, dir, names, decks, d, word, line),
         Line::Ident(word) => ident_step(dir, d, word),
         _ => correct_line(w, dir, names, decks, flags, d, line, asked),

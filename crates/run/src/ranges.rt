@@ -7,10 +7,10 @@ ghost use Rattle.run.specs.Resettled.{MarkSteps};
 ghost use Rattle.run.specs.RangeSteps.{HasTitle, LeadAfter, YankMarks, GoesOn, MarksFound};
 
 use crate::card::see;
-use crate::desk::{Desk, Stepped, TextAt, limited, moved};
+use crate::desk::{Desk, TextAt, limited, moved};
 use crate::fixes::{Sought, is_title, seek_card};
 use crate::gap::{Gap, open_ahead, open_at};
-use crate::marks::{Marked, mark_to};
+use crate::marks::mark_to;
 use crate::yanks::resettle;
 use run_meaning::Why;
 use words_lines::CardName;
@@ -57,32 +57,22 @@ fn lead_after(end: usize, d: Desk, h: Gap) -> usize
 }
 
 // A range of YANK$$$ is marked, and h is the gap after that: all of YANK$$$ comes below the gap, and the bits are settled.
-fn yank_marked(w: &mut [u64], dir: &[u64], flags: &mut [u64], d: Desk, h: Gap) -> Stepped
+fn yank_marked(w: &mut [u64], dir: &[u64], flags: &mut [u64], d: Desk, h: Gap) -> Result<Desk, Why>
     requires { Sane w.old d × (Ordered w.old h × ((length dir.now ≡ 1024) × (1024 < length flags.old))) }
     ensures sane_after { SaneAfter w.new result }
     ensures yank_marks { YankMarks w.old dir.now d h w.new flags.new result }
 {
     let n = lead_after(w.len(), d, h);
     let m = open_at(w, h, n);
-    let r = limited(Desk {
+    let e = limited(Desk {
         gap: m,
         low: d.yanks,
-        entries: d.entries,
-        decks: d.decks,
-        cards: d.cards,
-        yanks: d.yanks,
         lead: m.lo,
-        set: d.set,
-        next: d.next,
         place: TextAt::Yanks,
-    });
-    match r {
-        Stepped::Went(e) => {
-            resettle(w, dir, flags, e);
-            Stepped::Went(e)
-        }
-        Stepped::Refused(y) => Stepped::Refused(y),
-    }
+        ..d
+    })?;
+    resettle(w, dir, flags, e);
+    Ok(e)
 }
 
 // A range is marked, and k is the gap after that: text goes there, or the range is one of YANK$$$.
@@ -94,7 +84,7 @@ fn range_marked(
     first: usize,
     last: usize,
     k: Gap,
-) -> Stepped
+) -> Result<Desk, Why>
     requires { Sane w.old d × (Ordered w.old k × ((length dir.now ≡ 1024) × ((1024 < length flags.old) × (last < d.cards)))) }
     ensures sane_after { SaneAfter w.new result }
     ensures goes_on { GoesOn w.old dir.now flags.old d first last k w.new flags.new result }
@@ -116,7 +106,7 @@ fn mark_found(
     f: Sought,
     l: Sought,
     seq: u64,
-) -> Stepped
+) -> Result<Desk, Why>
     requires { Sane w.old d × ((length dir.now ≡ 1024) × ((1024 < length flags.old) × ((was < 2) × ((f.index ≤ l.index) × (l.index < d.cards))))) }
     ensures sane_after { SaneAfter w.new result }
     ensures marks_found { MarksFound w.old dir.now decks.now flags.old d was f l seq w.new flags.new result }
@@ -124,14 +114,10 @@ fn mark_found(
     let g = d.gap;
     let h = open_ahead(w, g, f.at);
     if has_title(w, decks, h.hi, l.index - f.index + 1) {
-        return Stepped::Refused(Why::Barred);
+        return Err(Why::Barred);
     }
-    let m = mark_to(w, h, l.own, seq, was, d.entries as u64);
-    match m {
-        Marked::NoCard => Stepped::Refused(Why::NoCard),
-        Marked::Limit => Stepped::Refused(Why::Limit),
-        Marked::Done(k) => { range_marked(w, dir, flags, d, f.index, l.index, k) }
-    }
+    let k = mark_to(w, h, l.own, seq, was, d.entries as u64)?;
+    range_marked(w, dir, flags, d, f.index, l.index, k)
 }
 
 // The last card of a range whose first is f. `*DELETE X.n` names one card for both, and that one is not sought again.
@@ -159,24 +145,24 @@ pub(crate) fn mark_step(
     was: u64,
     a: CardName,
     b: CardName,
-) -> Stepped
+) -> Result<Desk, Why>
     requires { Sane w.old d × ((length dir.now ≡ 1024) × ((1024 < length decks.now) × ((1024 < length flags.old) × (was < 2)))) }
     ensures sane_after { SaneAfter w.new result }
     ensures mark_steps { MarkSteps w.old dir.now decks.now flags.old d was a b w.new flags.new result }
 {
     if !d.set {
-        return Stepped::Refused(Why::Nowhere);
+        return Err(Why::Nowhere);
     }
     let f = seek_card(w, dir, d, a);
     if d.cards <= f.index {
-        return Stepped::Refused(Why::NoCard);
+        return Err(Why::NoCard);
     }
     let l = seek_last(w, dir, d, a, f, b);
     if d.cards <= l.index {
-        return Stepped::Refused(Why::NoCard);
+        return Err(Why::NoCard);
     }
     if l.index < f.index {
-        return Stepped::Refused(Why::Backwards);
+        return Err(Why::Backwards);
     }
     mark_found(w, dir, decks, flags, d, was, f, l, b.seq)
 }

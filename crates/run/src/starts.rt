@@ -5,7 +5,7 @@ ghost use Rattle.run.specs.Obeyed.{StaysSane, IdentSteps, DeckSteps};
 ghost use Rattle.run.specs.Desk.{Sane, SaneAfter};
 ghost use Rattle.run.specs.YankNames.{unknown_in};
 
-use crate::desk::{Desk, Stepped, TextAt, limited};
+use crate::desk::{Desk, TextAt, limited};
 use crate::gap::open_ahead;
 use crate::texts::put_line;
 use run_meaning::Why;
@@ -31,28 +31,22 @@ pub(crate) fn is_unknown(dir: &[u64], n: usize, w: u64) -> bool
 }
 
 // IDENT: a set begins, and text goes nowhere yet.
-pub(crate) fn ident_step(dir: &mut [u64], d: Desk, word: u64) -> Stepped
+pub(crate) fn ident_step(dir: &mut [u64], d: Desk, word: u64) -> Result<Desk, Why>
     requires { (length dir.old ≡ 1024) × ((d.entries ≤ 1023) × ((d.decks ≤ 254) × ((d.gap.lo ≤ 65536) × (d.gap.hi ≤ 65536)))) }
     ensures stays_sane { StaysSane d result }
     ensures ident_steps { IdentSteps dir.old d word dir.new result }
 {
     let n = d.entries;
     if !is_unknown(dir, n, word) {
-        return Stepped::Refused(Why::Known);
+        return Err(Why::Known);
     }
     dir[n] = word;
-    let g = d.gap;
     limited(Desk {
-        gap: g,
-        low: d.low,
         entries: n + 1,
-        decks: d.decks,
-        cards: d.cards,
-        yanks: d.yanks,
-        lead: d.lead,
         set: true,
         next: 1,
         place: TextAt::Nowhere,
+        ..d
     })
 }
 
@@ -65,7 +59,7 @@ pub(crate) fn deck_step(
     d: Desk,
     word: u64,
     line: &[u8],
-) -> Stepped
+) -> Result<Desk, Why>
     requires { Sane w.old d × ((1023 < length dir.old) × ((255 < length names.old) × (1024 < length decks.old))) }
     ensures sane_after { SaneAfter w.new result }
     ensures deck_steps { DeckSteps w.old dir.old names.old decks.old d word line.now w.new dir.new names.new decks.new result }
@@ -73,7 +67,7 @@ pub(crate) fn deck_step(
     let n = d.entries;
     let k = d.decks + 1;
     if !is_unknown(dir, n, word) {
-        return Stepped::Refused(Why::Known);
+        return Err(Why::Known);
     }
     let g = d.gap;
     let end = w.len();
@@ -88,10 +82,9 @@ pub(crate) fn deck_step(
         entries: n + 1,
         decks: k,
         cards: d.cards + 1,
-        yanks: d.yanks,
-        lead: d.lead,
         set: false,
         next: 2,
         place: TextAt::Gap,
+        ..d
     })
 }

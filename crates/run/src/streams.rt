@@ -3,7 +3,7 @@ ghost use Rattle.std.specs.Prelude.{◌≡◌, ◌≤◌, ◌<◌, length};
 ghost use Rattle.run.specs.Desk.{Sane};
 ghost use Rattle.run.specs.Streamed.{in_arrays, SaneEnd, ObeysStream};
 
-use crate::desk::{Desk, Stepped};
+use crate::desk::{Desk};
 use crate::obey::obey_line;
 use run_meaning::Why;
 
@@ -35,10 +35,10 @@ pub(crate) fn obey_stream(
         let next = run_meaning::line_after(at, line);
         let r = obey_line(w, dir, names, decks, flags, d, line);
         match r {
-            Stepped::Refused(y) => {
+            Err(y) => {
                 return Ended::Stopped(y, n);
             }
-            Stepped::Went(e) => {
+            Ok(e) => {
                 d = e;
                 at = next;
                 n += 1;

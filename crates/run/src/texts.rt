@@ -4,7 +4,7 @@ ghost use Rattle.run.specs.GapWords.{Ordered};
 ghost use Rattle.run.specs.Desk.{Sane, SaneAfter};
 ghost use Rattle.run.specs.Obeyed.{PutsLine, TextSteps};
 
-use crate::desk::{Desk, Stepped, TextAt, limited};
+use crate::desk::{Desk, TextAt, limited};
 use crate::gap::Gap;
 use crate::put::put_card;
 use run_meaning::Why;
@@ -26,7 +26,7 @@ pub(crate) fn put_line(w: &mut [u64], g: Gap, line: &[u8], seq: u64, n: u64) -> 
 }
 
 // A text line: a card of the unit where text goes, ahead of what is there.
-pub(crate) fn text_step(w: &mut [u64], d: Desk, line: &[u8]) -> Stepped
+pub(crate) fn text_step(w: &mut [u64], d: Desk, line: &[u8]) -> Result<Desk, Why>
     requires { Sane w.old d }
     ensures sane_after { SaneAfter w.new result }
     ensures text_steps { TextSteps w.old d line.now w.new result }
@@ -34,22 +34,18 @@ pub(crate) fn text_step(w: &mut [u64], d: Desk, line: &[u8]) -> Stepped
     let place = d.place;
     let g = d.gap;
     match place {
-        TextAt::Nowhere => Stepped::Refused(Why::Nowhere),
-        TextAt::Yanks => Stepped::Refused(Why::Barred),
+        TextAt::Nowhere => Err(Why::Nowhere),
+        TextAt::Yanks => Err(Why::Barred),
         TextAt::Gap => {
             let next = run_meaning::number_after(d.next);
             let h = put_line(w, g, line, d.next, d.entries as u64);
             limited(Desk {
                 gap: h,
                 low: d.low + 1,
-                entries: d.entries,
-                decks: d.decks,
                 cards: d.cards + 1,
-                yanks: d.yanks,
-                lead: d.lead,
-                set: d.set,
-                next: next,
+                next,
                 place: TextAt::Gap,
+                ..d
             })
         }
     }

@@ -5,7 +5,7 @@ ghost use Rattle.run.specs.Desk.{Sane, SaneAfter};
 ghost use Rattle.run.specs.Resettled.{Resettled, YankSteps};
 ghost use Rattle.run.specs.YankNames.{names_in, unknown_in, no_set_in, LeadAfter, PutsYank};
 
-use crate::desk::{Desk, Stepped, TextAt, limited};
+use crate::desk::{Desk, TextAt, limited};
 use crate::gap::open_at;
 use crate::settle::settle_all;
 use crate::starts::{entry_of, is_unknown};
@@ -63,14 +63,14 @@ fn any_no_set(dir: &[u64], n: usize, names: &[u64], k: usize, field: &[u8]) -> b
 }
 
 // The line as a card at the end of YANK$$$, under the flags of before; text then goes nowhere.
-fn put_yank(w: &mut [u64], d: Desk, line: &[u8]) -> Stepped
+fn put_yank(w: &mut [u64], d: Desk, line: &[u8]) -> Result<Desk, Why>
     requires { Sane w.old d }
     ensures sane_after { SaneAfter w.new result × LeadAfter result }
     ensures puts_yank { PutsYank w.old d line.now w.new result }
 {
     // never so of a library in work: YANK$$$ has no more words than the array
     if w.len() < d.lead {
-        return Stepped::Refused(Why::Limit);
+        return Err(Why::Limit);
     }
     let next = run_meaning::number_after(d.next);
     let g = d.gap;
@@ -79,14 +79,12 @@ fn put_yank(w: &mut [u64], d: Desk, line: &[u8]) -> Stepped
     limited(Desk {
         gap: h,
         low: d.yanks + 1,
-        entries: d.entries,
-        decks: d.decks,
         cards: d.cards + 1,
         yanks: d.yanks + 1,
         lead: h.lo,
-        set: d.set,
-        next: next,
+        next,
         place: TextAt::Nowhere,
+        ..d
     })
 }
 
@@ -111,28 +109,24 @@ pub(crate) fn yank_step(
     flags: &mut [u64],
     d: Desk,
     line: &[u8],
-) -> Stepped
+) -> Result<Desk, Why>
     requires { Sane w.old d × ((length dir.now ≡ 1024) × ((255 < length names.now) × (1024 < length flags.old))) }
     ensures sane_after { SaneAfter w.new result }
     ensures yank_steps { YankSteps w.old dir.now names.now flags.old d line.now w.new flags.new result }
 {
     if !d.set {
-        return Stepped::Refused(Why::Nowhere);
+        return Err(Why::Nowhere);
     }
     let n = d.entries;
     let k = d.decks + 1;
     let field = words_lines::field_of(line);
     if any_unknown(dir, n, field) {
-        return Stepped::Refused(Why::Unknown);
+        return Err(Why::Unknown);
     }
     if any_no_set(dir, n, names, k, field) {
-        return Stepped::Refused(Why::NoSet);
+        return Err(Why::NoSet);
     }
-    match put_yank(w, d, line) {
-        Stepped::Went(e) => {
-            resettle(w, dir, flags, e);
-            Stepped::Went(e)
-        }
-        Stepped::Refused(y) => Stepped::Refused(y),
-    }
+    let e = put_yank(w, d, line)?;
+    resettle(w, dir, flags, e);
+    Ok(e)
 }

@@ -1,10 +1,10 @@
 -- Outside a set 24, no card 28, in YANK$$$ or at a deck card 30; else the gap is opened directly ahead of the card.
+use Rattle.std.specs.Prelude.{Ok}
 use mathlib.Core.Path.{◌≡◌, refl, sym, ◌∙◌, subst}
 use lib.ListN.{length}
 use Rattle.run.specs.Desk.{Sane}
 use Rattle.run.specs.Corrected.{BeforeSteps}
 use Rattle.run.specs.declared.desk.Desk.{Desk}
-use Rattle.run.specs.declared.desk.Stepped.TheVariants.{Went as SteppedOn}
 use Rattle.run.proofs.Sums.{room-place, below-le}
 use Rattle.run.proofs.Correcting.{before-off, before-missing, before-yanks, before-deck, before_on, moved-sane, not_taken, not_left}
 use Rattle.run.proofs.fixes.before_step.Goals as goal
@@ -61,6 +61,6 @@ returns c =
     let on = not_left a.d.set c.if-not-d.false in
     let e = sym c.moved.ensures in record {
       sane_after = subst (Sane o.new.w) e (moved-sane a.w.now o.new.w a.d o.result f.result.index pre.0 same o.ensures.ordered (below-le _ _ c.if-d-f.false));
-      before_steps = subst (λ (x : Desk). BeforeSteps a.w.now a.dir.now a.decks.now a.d a.r o.new.w (SteppedOn x)) e
+      before_steps = subst (λ (x : Desk). BeforeSteps a.w.now a.dir.now a.decks.now a.d a.r o.new.w (Ok x)) e
           (before_on a.w.now a.dir.now a.decks.now a.d a.r o.new.w on f.result f.ensures.seeks_card c.if-d-f.false c.if-f-d.false (sym c.is_title.ensures ∙ c.if-is_title.false) o.result o.ensures.opens_ahead);
     }

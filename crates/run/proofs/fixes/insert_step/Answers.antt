@@ -1,11 +1,11 @@
 -- Outside a set 24, no card 28, in YANK$$$ 30; else the gap is opened directly after the card.
+use Rattle.std.specs.Prelude.{Ok}
 use Prim.Native.Nat.{◌+◌}
 use mathlib.Core.Path.{◌≡◌, refl, sym, subst}
 use lib.ListN.{length}
 use Rattle.run.specs.Desk.{Sane}
 use Rattle.run.specs.Corrected.{InsertSteps}
 use Rattle.run.specs.declared.desk.Desk.{Desk}
-use Rattle.run.specs.declared.desk.Stepped.TheVariants.{Went as SteppedOn}
 use Rattle.run.proofs.Sums.{room-place, index-fits, one_on}
 use Rattle.run.proofs.Correcting.{insert-off, insert-missing, insert-yanks, insert-on, moved-sane, not_taken, not_left}
 use Rattle.run.proofs.fixes.insert_step.Goals as goal
@@ -54,6 +54,6 @@ returns c =
     let on = not_left a.d.set c.if-not-d.false in
     let e = sym c.moved.ensures in record {
       sane_after = subst (Sane o.new.w) e (moved-sane a.w.now o.new.w a.d o.result (f.result.index + 1) pre.0 same o.ensures.ordered (one_on _ _ c.if-d-f.false));
-      insert_steps = subst (λ (x : Desk). InsertSteps a.w.now a.dir.now a.d a.r o.new.w (SteppedOn x)) e
+      insert_steps = subst (λ (x : Desk). InsertSteps a.w.now a.dir.now a.d a.r o.new.w (Ok x)) e
           (insert-on a.w.now a.dir.now a.d a.r o.new.w on f.result f.ensures.seeks_card c.if-d-f.false c.if-f-d.false o.result o.ensures.opens_after);
     }

@@ -25,8 +25,8 @@ loop-at-init c =
       goes-start (in_arrays a.w.now a.dir.now a.names.now a.decks.now a.flags.now) a.first a.stream.now,
     )
 
-pub returns-in-Refused : goal.returns-in-Refused
-returns-in-Refused c =
+pub returns-in-Err : goal.returns-in-Err
+returns-in-Err c =
     let a = c.args in
     let l = c.loop-at in
     let lt : l.at < length a.stream.now = c.loop-at-test.true in
@@ -34,7 +34,7 @@ returns-in-Refused c =
     let line = c.line_at-line in
     let old = in_arrays a.w.now a.dir.now a.names.now a.decks.now a.flags.now in
     let here = in_arrays l.w l.dir l.names l.decks l.flags in
-    let new = in_arrays p.new.w p.new.dir p.new.names p.new.decks p.new.flags in record { sane_end = tt; obeys_stream = goes-stop old a.first a.stream.now here l.d l.n l.at l.invariant.1 line.result.now line.ensures lt new c.in-Refused.y (subst (ObeysLine here l.d line.result.now new) c.in-Refused.is p.ensures.obeys_line) }
+    let new = in_arrays p.new.w p.new.dir p.new.names p.new.decks p.new.flags in record { sane_end = tt; obeys_stream = goes-stop old a.first a.stream.now here l.d l.n l.at l.invariant.1 line.result.now line.ensures lt new c.in-Err.y (subst (ObeysLine here l.d line.result.now new) c.in-Err.is p.ensures.obeys_line) }
 
 pub overflow_add-n : goal.overflow_add-n
 overflow_add-n c =
@@ -75,7 +75,7 @@ loop-at-preserved c =
     let same4 : length p.new.flags ≡ length l.flags = search rules in
     let i = c.loop-at.invariant.0 in (
       record {
-        sane = subst (SaneAfter p.new.w) c.in-Went.is p.ensures.sane_after;
+        sane = subst (SaneAfter p.new.w) c.in-Ok.is p.ensures.sane_after;
         directory = same1 ∙ i.directory;
         listed = same2 ∙ i.listed;
         numbers = same3 ∙ i.numbers;
@@ -83,7 +83,7 @@ loop-at-preserved c =
         within = place.1;
         number = omega (arith, i.number, place.0);
       },
-      goes-more old a.first a.stream.now here l.d l.n l.at l.invariant.1 line.result.now line.ensures lt new c.in-Went.e next.result place.0 (subst (ObeysLine here l.d line.result.now new) c.in-Went.is p.ensures.obeys_line),
+      goes-more old a.first a.stream.now here l.d l.n l.at l.invariant.1 line.result.now line.ensures lt new c.in-Ok.e next.result place.0 (subst (ObeysLine here l.d line.result.now new) c.in-Ok.is p.ensures.obeys_line),
     )
 
 pub returns : goal.returns
