@@ -1,12 +1,13 @@
 -- Flags cleared from the first on, then those of a list's numbers set one after another.
-use Prim.Native.Nat.{ℕ, suc, ◌+◌, ◌≤◌, ◌<◌}
+use Prim.Native.Nat.{ℕ, suc, ◌+◌, ◌-◌, ◌≤◌, ◌<◌}
 use native.Mathlib.Omega.{arith}
 use mathlib.Core.Path.{◌≡◌, refl, sym, ap, ap₂, ◌∙◌}
 use mathlib.Core.Bool.{Bool, true, false, ◌||◌, not}
 use mathlib.Core.List.{List, ◌∷◌, map}
 use lib.Dec.{eqb}
 use lib.ListN.{length, take, drop, set, get_or, drop_of_length-le}
-use lib.Seq.{drop-cons, get_or-take, get_or-set_same, get_or-set_other}
+use lib.Seq.{drop-cons, get_or-set_same, get_or-set_other}
+use Rattle.std.proofs.lemmas.List.{drop-take}
 use Rattle.words.proofs.TestParts.{or-false, or-true}
 use Rattle.words.specs.Base.{member}
 use Rattle.library_yanks_bits.specs.SettledBits.{flagged}
@@ -20,8 +21,8 @@ unfolding flagged
 no-flags n flags e m = ap (λ (k : ℕ). not (eqb k 0)) (ap (λ (l : List ℕ). get_or l m 0) e ∙ zeros-zero n m)
 
 -- SET: the numbers `of` the names from i on are still to do
-abbrev pub StillFlags : (ℕ → ℕ) → List ℕ → List ℕ → ℕ → List ℕ → Type 0
-StillFlags of ns names i flags = (m : ℕ) → (flagged flags m || member m (map of (drop i names))) ≡ member m ns
+abbrev pub StillFlags : (ℕ → ℕ) → List ℕ → ℕ → List ℕ → Type 0
+StillFlags of names i flags = (m : ℕ) → (flagged flags m || member m (map of (drop i names))) ≡ member m (map of names)
 
 flag-set : (flags : List ℕ) (n m : ℕ) → n < length flags → flagged (set flags n 1) m ≡ (flagged flags m || eqb m n)
 unfolding flagged
@@ -40,28 +41,28 @@ or_parts : (a b c : Bool) → ((a || b) || c) ≡ (a || (b || c))
 or_parts true b c = refl
 or_parts false b c = refl
 
-pub flag-start : (of : ℕ → ℕ) (names : List ℕ) (i : ℕ) (flags : List ℕ) → NoFlags flags → StillFlags of (map of (drop i names)) names i flags
-flag-start of names i flags h m = ap (λ (b : Bool). b || member m (map of (drop i names))) (h m)
+pub flag-start : (of : ℕ → ℕ) (names flags : List ℕ) → NoFlags flags → StillFlags of names 0 flags
+flag-start of names flags h m = ap (λ (b : Bool). b || member m (map of names)) (h m)
 
-pub flag-more : (of : ℕ → ℕ) (ns names : List ℕ) (k i : ℕ) (flags : List ℕ) (e : ℕ) → i < k → k ≤ length names → e < length flags
-    → e ≡ of (get_or names i 0) → StillFlags of ns (take k names) i flags → StillFlags of ns (take k names) (i + 1) (set flags e 1)
-flag-more of ns names k i flags e lt le within is h m =
-    let L : List ℕ = take k names in
-    let long : length L ≡ k = lib.Seq.length-take-le k names le in
-    let here : drop i L ≡ get_or names i 0 ∷ drop (suc i) L = drop-cons L i 0 (omega arith) ∙ ap (λ (x : ℕ). x ∷ drop (suc i) L) (get_or-take k names i 0 lt) in
+pub flag-more : (of : ℕ → ℕ) (names : List ℕ) (i : ℕ) (flags : List ℕ) (e : ℕ) → i < length names → e < length flags → e ≡ of (get_or names i 0)
+    → StillFlags of names i flags → StillFlags of names (i + 1) (set flags e 1)
+flag-more of names i flags e lt within is h m =
+    let here : drop i names ≡ get_or names i 0 ∷ drop (suc i) names = drop-cons names i 0 lt in
     let next : i + 1 ≡ suc i = omega arith in
-    ap₂ (λ (b : Bool) (j : ℕ). b || member m (map of (drop j L))) (flag-set flags e m within) next
-    ∙ or_parts (flagged flags m) (eqb m e) (member m (map of (drop (suc i) L)))
-    ∙ ap (λ (x : ℕ). flagged flags m || (eqb m x || member m (map of (drop (suc i) L)))) is
+    ap₂ (λ (b : Bool) (j : ℕ). b || member m (map of (drop j names))) (flag-set flags e m within) next
+    ∙ or_parts (flagged flags m) (eqb m e) (member m (map of (drop (suc i) names)))
+    ∙ ap (λ (x : ℕ). flagged flags m || (eqb m x || member m (map of (drop (suc i) names)))) is
     ∙ ap (λ (r : List ℕ). flagged flags m || member m (map of r)) (sym here)
     ∙ h m
 
-pub flag-end : (of : ℕ → ℕ) (ns names : List ℕ) (k i : ℕ) (flags : List ℕ) → k ≤ length names → k ≤ i → StillFlags of ns (take k names) i flags
-    → (m : ℕ) → flagged flags m ≡ member m ns
-flag-end of ns names k i flags le done h m =
-    let long : length (take k names) ≡ k = lib.Seq.length-take-le k names le in
-    or-none (flagged flags m) ∙ ap (λ (r : List ℕ). flagged flags m || member m (map of r)) (sym (drop_of_length-le (take k names) {i = i} (omega arith))) ∙ h m
+pub flag-end : (of : ℕ → ℕ) (names : List ℕ) (i : ℕ) (flags : List ℕ) → length names ≤ i → StillFlags of names i flags → (m : ℕ) → flagged flags m ≡ member m (map of names)
+flag-end of names i flags done h m =
+    or-none (flagged flags m) ∙ ap (λ (r : List ℕ). flagged flags m || member m (map of r)) (sym (drop_of_length-le names {i = i} done)) ∙ h m
   where
     or-none : (a : Bool) → a ≡ (a || false)
     or-none true = refl
     or-none false = refl
+
+-- a deck list's names after its first are those from the second on
+pub names-listed : (names : List ℕ) (k : ℕ) → 0 < k → take (k - 1) (drop 1 names) ≡ drop 1 (take k names)
+names-listed names k pos = let e : 1 + (k - 1) ≡ k = omega arith in sym (drop-take 1 (k - 1) names) ∙ ap (λ (n : ℕ). drop 1 (take n names)) e

@@ -2,9 +2,9 @@
 use Prim.Native.Nat.{ℕ, suc, ◌+◌, ◌-◌, ◌*◌, ◌/◌, ◌%◌, ◌≤◌, ◌<◌}
 use native.Mathlib.Omega.{arith}
 use mathlib.Core.Path.{◌≡◌, refl, sym, ap, ◌∙◌}
-use mathlib.Core.Bool.{Bool, true, false}
+use mathlib.Core.Bool.{Bool, true, false, not}
 use mathlib.Core.List.{List, [], ◌∷◌, ◌++◌, map, append_assoc}
-use lib.Dec.{eqb}
+use lib.Dec.{eqb, leb}
 use lib.ListN.{length, drop, get_or, length-append, length-map}
 use lib.Seq.{get_or-drop, get_or_at}
 use borrow.Author.Tests.{eqb-true, eqb-false, le-leb, lt-leb}
@@ -109,8 +109,9 @@ module _ (w : List ℕ) (at heads : ℕ) where
   pub full-few : heads < 22 → FullAny w at heads false
   full-few h yk c rest here f long = sym (lt-leb 63 (length c.later) (few yk c rest here f long h))
 
-  pub full-left : get_or w (at + heads - 1) 0 % 262144 ≡ 0 → FullAny w at heads false
-  full-left z yk c rest here f long = sym (lt-leb 63 (length c.later) (some_left yk c rest here f long z))
-
-  pub full-none : 22 ≤ heads → (get_or w (at + heads - 1) 0 % 262144 ≡ 0 → ⊥) → FullAny w at heads true
-  full-none h z yk c rest here f long = sym (le-leb 63 (length c.later) (none_left yk c rest here f long h z))
+  pub full-by_last : 22 ≤ heads → FullAny w at heads (not (eqb (get_or w (at + heads - 1) 0 % 262144) 0))
+  full-by_last h yk c rest here f long = go (eqb (get_or w (at + heads - 1) 0 % 262144) 0) refl
+    where
+      go : (b : Bool) → eqb (get_or w (at + heads - 1) 0 % 262144) 0 ≡ b → not b ≡ leb 63 (length c.later)
+      go true e = sym (lt-leb 63 (length c.later) (some_left yk c rest here f long (eqb-true _ 0 e)))
+      go false e = sym (le-leb 63 (length c.later) (none_left yk c rest here f long h (eqb-false _ 0 e)))

@@ -1,5 +1,8 @@
 -- A card's heads say how many they are, and give back each field that was written.
-use Rattle.std.specs.Prelude.{if◌then◌else◌}
+use Rattle.std.specs.Prelude.{if◌then◌else◌, Some, None, position}
+use Rattle.std.specs.List.{position_or_len}
+use Rattle.std.proofs.Common.{cond, nat_lt}
+use Rattle.std.proofs.lemmas.Bool.Decides.{nat_tests}
 use Prim.Native.Nat.{ℕ, suc, ◌+◌, ◌*◌, ◌/◌, ◌%◌, ◌^◌, ◌≤◌, ◌<◌}
 use native.Mathlib.Omega.{arith}
 use native.Mathlib.Numerals.{add-one}
@@ -24,9 +27,21 @@ module _ (w : List ℕ) (i : ℕ) where
   unfolding head_len
   len_more h b = rw (drop-cons w i 0 h, lt-leb (2 ^ 59) (get_or w i 0) b, add-one i)
 
-  pub len-none : length w ≤ i → head_len (drop i w) ≡ 0
-  unfolding head_len
-  len-none h = rw (drop_of_length-le w h)
+-- the first word with bit 59 ends a history, which else goes to the end
+pub len-first : (xs : List ℕ) → head_len xs ≡ cond (nat_lt (position_or_len (leb (2 ^ 59)) xs) (length xs)) (position_or_len (leb (2 ^ 59)) xs + 1) (length xs)
+unfolding head_len
+len-first [] = refl
+len-first (x ∷ xs) = go (leb (2 ^ 59) x) refl (len-first xs)
+  where
+    go : (b : Bool) → leb (2 ^ 59) x ≡ b → head_len xs ≡ cond (nat_lt (position_or_len (leb (2 ^ 59)) xs) (length xs)) (position_or_len (leb (2 ^ 59)) xs + 1) (length xs) → head_len (x ∷ xs) ≡ cond (nat_lt (position_or_len (leb (2 ^ 59)) (x ∷ xs)) (length (x ∷ xs))) (position_or_len (leb (2 ^ 59)) (x ∷ xs) + 1) (length (x ∷ xs))
+    go true e h = rw e (grind (arith, nat_tests))
+    go false e h = rw e (grind (arith, nat_tests, h))
+
+pub len-some : (xs : List ℕ) (i : ℕ) → position (leb (2 ^ 59)) xs ≡ Some i → (head_len xs ≡ i + 1) × (i < length xs)
+len-some xs i e = grind (arith, nat_tests, len-first xs)
+
+pub len-none : (xs : List ℕ) → position (leb (2 ^ 59)) xs ≡ None → head_len xs ≡ length xs
+len-none xs e = grind (arith, nat_tests, len-first xs)
 
 abbrev pub Raw : List ℕ → Type 0
 Raw bs = Each (λ b. b < 2 ^ 18) bs

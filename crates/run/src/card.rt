@@ -1,5 +1,5 @@
 // A card's heads, the words of its history, as they stand in an array (RULES, "Cards").
-ghost use Rattle.std.specs.Prelude.{◌≡◌, true, false, ◌+◌, ◌-◌, ◌*◌, ◌/◌, ◌%◌, ◌^◌, ◌≤◌, ◌<◌, length, drop};
+ghost use Rattle.std.specs.Prelude.{◌≡◌, true, false, ◌+◌, ◌-◌, ◌*◌, ◌/◌, ◌%◌, ◌^◌, ◌≤◌, ◌<◌, length, drop, leb, position};
 ghost use Rattle.run.specs.CardHeads.{head_len, beyond, SeesAny, FullAny};
 
 use library::{ACTIVATING, ACTIVE, FIELD, LAST, MOST_HEADS, UPPER};
@@ -14,19 +14,22 @@ pub(crate) struct Seen {
     pub(crate) count: usize,
 }
 
+// Where the last word of the first history is.
+fn last_word(w: &[u64]) -> Option<usize>
+    ensures { result ≡ position (leb (2 ^ 59)) w.now }
+{
+    w.iter().position(|x| LAST <= *x)
+}
+
 // How many words of history stand from `at` on.
 fn head_len(w: &[u64], at: usize) -> usize
     requires { at ≤ length w.now }
     ensures { (result ≡ head_len (drop at w.now)) × ((at + result ≤ length w.now) × (at < length w.now → 0 < result)) }
 {
-    let mut i = at;
-    while i < w.len() {
-        if LAST <= w[i] {
-            return i + 1 - at;
-        }
-        i += 1;
+    match last_word(&w[at..]) {
+        Some(i) => i + 1,
+        None => w.len() - at,
     }
-    i - at
 }
 
 pub(crate) fn see(w: &[u64], at: usize) -> Seen
@@ -65,14 +68,7 @@ pub(crate) fn is_full(w: &[u64], at: usize, heads: usize) -> bool
     requires { (0 < heads) × (at + heads ≤ length w.now) }
     ensures { FullAny w.now at heads result }
 {
-    if heads < MOST_HEADS {
-        return false;
-    }
-    let last = w[at + heads - 1];
-    if last % FIELD == 0 {
-        return false;
-    }
-    true
+    MOST_HEADS <= heads && w[at + heads - 1] % FIELD != 0
 }
 
 // A first word with its activity bit set anew.

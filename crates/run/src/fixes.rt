@@ -1,6 +1,7 @@
 // INSERT and BEFORE (RULES, "Corrections").
 ghost use Rattle.std.specs.Prelude.{◌≡◌, ◌≤◌, ◌<◌, length};
 ghost use Rattle.run.specs.Desk.{Sane, SaneAfter};
+ghost use Rattle.library_yanks_bits.specs.SettledBits.{flagged};
 ghost use Rattle.run.specs.Corrected.{titled, SeeksCard, InsertSteps, BeforeSteps};
 
 use crate::desk::{Desk, moved};
@@ -62,21 +63,18 @@ pub(crate) fn insert_step(w: &mut [u64], dir: &[u64], d: Desk, r: CardName) -> R
     Ok(moved(d, h, f.index + 1))
 }
 
+// Whether flag n is there and not 0.
+fn is_flagged(flags: &[u64], n: usize) -> bool
+    ensures { result ≡ flagged flags.now n }
+{
+    n < flags.len() && flags[n] != 0
+}
+
 // Whether a deck's card has this owner and number: flag n is not 0 where n is a deck's.
 pub(crate) fn is_title(decks: &[u64], own: u64, seq: u64) -> bool
     ensures { result ≡ titled decks.now own seq }
 {
-    if seq != 1 {
-        return false;
-    }
-    let n = own as usize;
-    if decks.len() <= n {
-        return false;
-    }
-    if decks[n] == 0 {
-        return false;
-    }
-    true
+    seq == 1 && is_flagged(decks, own as usize)
 }
 
 // BEFORE: the gap goes directly ahead of the card, which is no deck card.

@@ -14,15 +14,13 @@ use library::{FIELD, MOST_WORDS};
 
 // The numbers of the names after the first of k: YANK$$$ has none.
 fn flag_decks(dir: &[u64], n: usize, names: &[u64], k: usize, flags: &mut [u64])
-    requires { (n ≤ length dir.now) × ((k ≤ length names.now) × (n < length flags.old)) }
+    requires { (n ≤ length dir.now) × ((k ≤ length names.now) × ((n < length flags.old) × (0 < k))) }
     ensures { FlagsDecks dir.now n names.now k flags.new }
 {
     words_lists::clear(flags);
-    let mut i: usize = 1;
-    while i < k {
-        let e = entry_of(dir, n, names[i]);
+    for name in &names[1..k] {
+        let e = entry_of(dir, n, *name);
         flags[e] = 1;
-        i += 1;
     }
 }
 

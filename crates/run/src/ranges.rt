@@ -21,8 +21,7 @@ fn has_title(w: &[u64], decks: &[u64], from: usize, n: usize) -> bool
     ensures { HasTitle w.now decks.now from n result }
 {
     let mut at = from;
-    let mut left = n;
-    while 0 < left {
+    for _ in 0..n {
         if w.len() <= at {
             return false;
         }
@@ -31,7 +30,6 @@ fn has_title(w: &[u64], decks: &[u64], from: usize, n: usize) -> bool
             return true;
         }
         at = at + c.heads + c.count;
-        left -= 1;
     }
     false
 }

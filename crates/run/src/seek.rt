@@ -21,10 +21,7 @@ fn is_card(w: &[u64], at: usize, owner: u64, seq: u64) -> bool
     ensures { result ≡ named_at w.now at owner seq }
 {
     let x = w[at];
-    if x / FIELD % FIELD != seq {
-        return false;
-    }
-    x % ACTIVATING == owner
+    x / FIELD % FIELD == seq && x % ACTIVATING == owner
 }
 
 // The card among those from `from` up to `to`.

@@ -1,30 +1,22 @@
-use Prim.Native.Nat.{suc, ◌+◌, ◌<◌}
-use mathlib.Core.Path.{◌≡◌}
+-- The words from `at` on are all that are looked through.
+use Prim.Native.Nat.{◌+◌, ◌-◌, ◌<◌}
 use native.Mathlib.Omega.{arith}
-use lib.ListN.{length, drop}
+use mathlib.Core.Path.{◌≡◌, sym, ◌∙◌}
+use lib.ListN.{length, drop, length-drop}
+use Rattle.std.proofs.lemmas.List.{take_rest}
 use Rattle.run.specs.CardHeads.{head_len}
-use Rattle.run.proofs.Heads.{len-end, len_more, len-none}
+use Rattle.run.proofs.Heads.{len-some, len-none}
 use Rattle.run.proofs.card.head_len.Goals as goal
 
-pub returns-then-w-i-ge-LAST : goal.returns-then-w-i-ge-LAST
-returns-then-w-i-ge-LAST c =
-    let l = c.loop-i in
+pub returns-in-Some : goal.returns-in-Some
+returns-in-Some c =
     let a = c.args in
-    let inside : l.i < length a.w.now = omega arith in
-    let one : head_len (drop l.i a.w.now) ≡ 1 = len-end a.w.now l.i inside c.if-w-i-ge-LAST.true in
-    (omega arith, (omega arith, λ h. omega arith))
+    let p = len-some (drop a.at a.w.now) c.in-Some.i (rw take_rest at (sym c.last_word.ensures ∙ c.in-Some.is)) in
+    let long : length (drop a.at a.w.now) ≡ length a.w.now - a.at = length-drop a.at a.w.now in
+    (sym p.0, (omega (arith, p.1), λ h. omega arith))
 
-pub loop-i-preserved : goal.loop-i-preserved
-loop-i-preserved c =
-    let l = c.loop-i in
+pub returns-in-None : goal.returns-in-None
+returns-in-None c =
     let a = c.args in
-    let inside : l.i < length a.w.now = omega arith in
-    let one : head_len (drop l.i a.w.now) ≡ suc (head_len (drop (l.i + 1) a.w.now)) = len_more a.w.now l.i inside c.if-w-i-ge-LAST.false in
-    (omega arith, (omega arith, omega arith))
-
-pub returns : goal.returns
-returns c =
-    let l = c.loop-i in
-    let a = c.args in
-    let none : head_len (drop l.i a.w.now) ≡ 0 = len-none a.w.now l.i (omega arith) in
-    (omega arith, (omega arith, λ h. omega arith))
+    let e = len-none (drop a.at a.w.now) (rw take_rest at (sym c.last_word.ensures ∙ c.in-None.is)) in
+    (sym (length-drop a.at a.w.now) ∙ sym e, (omega arith, λ h. omega arith))
