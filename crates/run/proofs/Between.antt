@@ -14,7 +14,7 @@ use Rattle.run.specs.Work.{Work, within, up_to, beyond_card, MarksTo, range_of, 
 use Rattle.run.specs.declared.gap.Gap.{Gap}
 use Rattle.run_meaning.specs.declared.Why.{Why}
 
-pub marks-between : (w : List ℕ) (h : Gap) (o s was n : ℕ) (v : List ℕ) (r : Result Gap Why) → MarksTo w h o s was n v r → (yk : ℕ → Bool) (cs : List Card) (i : ℕ) → Work w h yk (take i cs) (drop i cs)
+pub marks-between : (w : List ℕ) (h : Gap) (o s : ℕ) (was : Bool) (n : ℕ) (v : List ℕ) (r : Result Gap Why) → MarksTo w h o s was n v r → (yk : ℕ → Bool) (cs : List Card) (i : ℕ) → Work w h yk (take i cs) (drop i cs)
     → i ≤ index_of o s cs → index_of o s cs < length cs → yk n ≡ false → 0 < n → MarkedBetween w yk cs i (index_of o s cs) was n v r
 marks-between w h o s was n v r marks yk cs i k first last free pos =
     let j : ℕ = index_of o s cs in

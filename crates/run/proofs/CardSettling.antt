@@ -1,4 +1,5 @@
 -- The words of cards, settled, are the words they are written in under the new flags.
+use Rattle.std.specs.Int.{from_bool}
 use Rattle.std.specs.Prelude.{if◌then◌else◌}
 use Prim.Native.Nat.{ℕ, zero, suc, ◌+◌, ◌*◌, ◌/◌, ◌%◌, ◌^◌, ◌≤◌, ◌<◌}
 use native.Mathlib.Omega.{arith}
@@ -36,13 +37,9 @@ head-ends : (t seq b : ℕ) → t < 2 ^ 18 → seq < 2 ^ 18 → b < 2 ^ 18 → (
 head-ends t seq b p q s true = (omega arith, omega arith)
 head-ends t seq b p q s false = (omega arith, omega arith)
 
-bit-one : (b : Bool) → eqb (bit b 0) 1 ≡ b
-bit-one true = refl
-bit-one false = refl
-
-bit-two : (b : Bool) → bit b 0 < 2
-bit-two true = omega arith
-bit-two false = omega arith
+bit-number : (b : Bool) → bit b 0 ≡ from_bool b
+bit-number true = refl
+bit-number false = refl
 
 module _ (new yk : ℕ → Bool) where
   -- the first word
@@ -78,10 +75,8 @@ module _ (new yk : ℕ → Bool) where
     first-is : (so : ℕ) (act : Bool) → so ≡ bit act 0
         → with_active (own_bits new old) so ≡ head_word end act t c.seq (byte_bits new (own_byte c))
     first-is so act e =
-        (λ i. with_active (bits_are i) (e i))
-        ∙ act-set end (active yk c) t c.seq (byte_bits new (own_byte c)) (bit act 0) f.count f.below
-        (bits_below new (own_byte c) f.first) (bit-two act)
-        ∙ ap (λ (q : Bool). head_word end q t c.seq (byte_bits new (own_byte c))) (bit-one act)
+        (λ i. with_active (bits_are i) ((e ∙ bit-number act) i))
+        ∙ act-set end (active yk c) t c.seq (byte_bits new (own_byte c)) act f.count f.below (bits_below new (own_byte c) f.first)
 
   abbrev own : ℕ → Byte
   own o = record { number = o; activating = true }

@@ -27,7 +27,7 @@ use Rattle.run.specs.declared.card.Seen.{Seen}
 use Rattle.run.specs.declared.seek.Place.{Place}
 use Rattle.run_meaning.specs.declared.Why.{Why}
 
-module _ (w : List ℕ) (g : Gap) (order : Ordered w g) (o s was n : ℕ) (low : n < 65536) (b : Place) (finds : Finds w g.hi (length w) o s b) where
+module _ (w : List ℕ) (g : Gap) (order : Ordered w g) (o s : ℕ) (was : Bool) (n : ℕ) (low : n < 65536) (b : Place) (finds : Finds w g.hi (length w) o s b) where
   module _ (yk : ℕ → Bool) (cs1 cs2 : List Card) (k : Work w g yk cs1 cs2) where
     abbrev q : ℕ
     q = index_of o s cs2

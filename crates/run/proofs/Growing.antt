@@ -1,5 +1,6 @@
 -- A history with one byte more has the same words but for its last: it takes the byte, or one word is added.
 use Rattle.std.specs.Prelude.{if◌then◌else◌}
+use Rattle.std.specs.Int.{from_bool}
 use Prim.Native.Nat.{ℕ, ◌+◌, ◌-◌, ◌*◌, ◌/◌, ◌%◌, ◌^◌, ◌<◌}
 use native.Mathlib.Omega.{arith}
 use mathlib.Core.Path.{◌≡◌, refl, sym, ap, ◌∙◌}
@@ -109,25 +110,21 @@ sound-all yk [] f = tt
 sound-all yk (b ∷ bs) f = (sound-bits yk b f.0, sound-all yk bs f.1)
 
 -- the bits of the byte that is added, whose set is not yanked
-pub byte-is : (yk : ℕ → Bool) (n on : ℕ) → on < 2 → yk n ≡ false → byte_bits yk (byte_of n on) ≡ on * 65536 + n
-byte-is yk n on h e = ap (λ (b : Bool). bit b 17 + bit (eqb on 1) 16 + n) e ∙ go (eqb on 1) refl
+pub byte-is : (yk : ℕ → Bool) (n : ℕ) (on : Bool) → yk n ≡ false → byte_bits yk (byte_of n on) ≡ from_bool on * 65536 + n
+byte-is yk n on e = ap (λ (b : Bool). bit b 17 + bit on 16 + n) e ∙ go on
   where
-    go : (b : Bool) → eqb on 1 ≡ b → 0 + bit b 16 + n ≡ on * 65536 + n
-    go true p = let q : on ≡ 1 = eqb-true on 1 p in omega arith
-    go false p = let q : on ≡ 1 → ⊥ = eqb-false on 1 p in omega arith
+    go : (b : Bool) → 0 + bit b 16 + n ≡ from_bool b * 65536 + n
+    go true = omega arith
+    go false = omega arith
 
 -- the activity bit is set
-pub act-set : (end act : Bool) (count seq b on : ℕ) → count < 2 ^ 18 → seq < 2 ^ 18 → b < 2 ^ 18 → on < 2
-    → head_word end act count seq b - head_word end act count seq b / 2 ^ 58 % 2 * 2 ^ 58 + on * 2 ^ 58 ≡ head_word end (eqb on 1) count seq b
-act-set end act count seq b on p q s h = go end act (eqb on 1) refl
-  where
-    go : (e a o : Bool) → eqb on 1 ≡ o
-        → head_word e a count seq b - head_word e a count seq b / 2 ^ 58 % 2 * 2 ^ 58 + on * 2 ^ 58 ≡ head_word e o count seq b
-    go true true true k = let z : on ≡ 1 = eqb-true on 1 k in omega arith
-    go true false true k = let z : on ≡ 1 = eqb-true on 1 k in omega arith
-    go false true true k = let z : on ≡ 1 = eqb-true on 1 k in omega arith
-    go false false true k = let z : on ≡ 1 = eqb-true on 1 k in omega arith
-    go true true false k = let z : on ≡ 1 → ⊥ = eqb-false on 1 k in let y : on ≡ 0 = omega arith in omega arith
-    go true false false k = let z : on ≡ 1 → ⊥ = eqb-false on 1 k in let y : on ≡ 0 = omega arith in omega arith
-    go false true false k = let z : on ≡ 1 → ⊥ = eqb-false on 1 k in let y : on ≡ 0 = omega arith in omega arith
-    go false false false k = let z : on ≡ 1 → ⊥ = eqb-false on 1 k in let y : on ≡ 0 = omega arith in omega arith
+pub act-set : (end act : Bool) (count seq b : ℕ) (on : Bool) → count < 2 ^ 18 → seq < 2 ^ 18 → b < 2 ^ 18
+    → head_word end act count seq b - head_word end act count seq b / 2 ^ 58 % 2 * 2 ^ 58 + from_bool on * 2 ^ 58 ≡ head_word end on count seq b
+act-set true true count seq b true p q s = omega arith
+act-set true false count seq b true p q s = omega arith
+act-set false true count seq b true p q s = omega arith
+act-set false false count seq b true p q s = omega arith
+act-set true true count seq b false p q s = omega arith
+act-set true false count seq b false p q s = omega arith
+act-set false true count seq b false p q s = omega arith
+act-set false false count seq b false p q s = omega arith

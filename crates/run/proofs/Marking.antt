@@ -1,5 +1,6 @@
 -- A card that passes over the gap with one byte more is written there as the card with that byte.
 use Rattle.std.specs.Prelude.{if◌then◌else◌}
+use Rattle.std.specs.Int.{from_bool}
 use Prim.Native.Nat.{ℕ, ◌+◌, ◌-◌, ◌*◌, ◌/◌, ◌%◌, ◌^◌, ◌≤◌, ◌<◌}
 use native.Mathlib.Omega.{arith}
 use mathlib.Core.Path.{◌≡◌, refl, sym, ap, ◌∙◌}
@@ -25,24 +26,24 @@ use Rattle.run.proofs.Parting.{lowered, byte-added, read_under, write_under, wri
 abbrev pub heads_with : (ℕ → Bool) → Bool → Card → ℕ → List ℕ
 heads_with yk act c x = head_words act (length (text_of c)) c.seq (byte_bits yk (own_byte c) ∷ (map (byte_bits yk) c.later ++ (x ∷ [])))
 
-pub with-is : (yk : ℕ → Bool) (c : Card) (n on : ℕ) → on < 2 → yk n ≡ false
-    → heads_with yk (eqb on 1) c (on * 65536 + n) ≡ heads_of yk (with_byte (byte_of n on) c)
+pub with-is : (yk : ℕ → Bool) (c : Card) (n : ℕ) (on : Bool) → yk n ≡ false
+    → heads_with yk on c (from_bool on * 65536 + n) ≡ heads_of yk (with_byte (byte_of n on) c)
 unfolding heads_of with_byte active
-with-is yk c n on h e =
+with-is yk c n on e =
     let x : Byte = byte_of n on in
-    let act : last_says yk false ((history c) ++ (x ∷ [])) ≡ eqb on 1 =
-    says-append yk false (history c) x ∙ ap (λ (b : Bool). (if b then (last_says yk false (history c)) else (eqb on 1))) e in
-    let bs : map (byte_bits yk) (c.later ++ (x ∷ [])) ≡ map (byte_bits yk) c.later ++ ((on * 65536 + n) ∷ []) =
-    map-append (byte_bits yk) c.later x ∙ (λ i. map (byte_bits yk) c.later ++ (byte-is yk n on h e i ∷ [])) in
+    let act : last_says yk false ((history c) ++ (x ∷ [])) ≡ on =
+    says-append yk false (history c) x ∙ ap (λ (b : Bool). (if b then (last_says yk false (history c)) else on)) e in
+    let bs : map (byte_bits yk) (c.later ++ (x ∷ [])) ≡ map (byte_bits yk) c.later ++ ((from_bool on * 65536 + n) ∷ []) =
+    map-append (byte_bits yk) c.later x ∙ (λ i. map (byte_bits yk) c.later ++ (byte-is yk n on e i ∷ [])) in
     sym (λ i. head_words (act i) (length (text_of c)) c.seq (byte_bits yk (own_byte c) ∷ bs i))
 
 pub same-heads : (yk : ℕ → Bool) (p q : Bool) (c : Card) (x : ℕ) → length (heads_with yk p c x) ≡ length (heads_with yk q c x)
 same-heads yk p q c x = refl
 
-module _ (w : List ℕ) (lo hi n on : ℕ) (order : lo ≤ hi) (end : hi ≤ length w) (two : on < 2) (yk : ℕ → Bool) (c : Card) (below rest : List ℕ)
+module _ (w : List ℕ) (lo hi n : ℕ) (on : Bool) (order : lo ≤ hi) (end : hi ≤ length w) (yk : ℕ → Bool) (c : Card) (below rest : List ℕ)
     (under : take lo w ≡ below) (over : drop hi w ≡ card_words yk c ++ rest) (f : Fits c) (out : yk n ≡ false) where
   abbrev x : ℕ
-  x = on * 65536 + n
+  x = from_bool on * 65536 + n
 
   pub long : length below ≡ lo
   long = sym (ap length under) ∙ length-take-le lo w (omega arith)
@@ -98,7 +99,7 @@ module _ (w : List ℕ) (lo hi n on : ℕ) (order : lo ≤ hi) (end : hi ≤ len
     size_is =
         let a : r ≡ length below + length after = longer.0 in
         let b : length after ≡ length (heads_of yk (with_byte (byte_of n on) c)) =
-        same-heads yk (active yk c) (eqb on 1) c x ∙ ap length (with-is yk c n on two out) in
+        same-heads yk (active yk c) on c x ∙ ap length (with-is yk c n on out) in
         let d : length (below ++ (heads_of yk (with_byte (byte_of n on) c) ++ text_of c))
         ≡ length below + length (heads_of yk (with_byte (byte_of n on) c) ++ text_of c) =
         length-append below (heads_of yk (with_byte (byte_of n on) c) ++ text_of c) in
@@ -106,7 +107,7 @@ module _ (w : List ℕ) (lo hi n on : ℕ) (order : lo ≤ hi) (end : hi ≤ len
         length-append (heads_of yk (with_byte (byte_of n on) c)) (text_of c) in
         omega arith
 
-    module _ (fits : r ≤ hi + heads_len c) (v : ℕ) (val : v ≡ get_or w2 lo 0 - get_or w2 lo 0 / 2 ^ 58 % 2 * 2 ^ 58 + on * 2 ^ 58)
+    module _ (fits : r ≤ hi + heads_len c) (v : ℕ) (val : v ≡ get_or w2 lo 0 - get_or w2 lo 0 / 2 ^ 58 % 2 * 2 ^ 58 + from_bool on * 2 ^ 58)
         (w4 : List ℕ) (s4 : Lowered (set w2 lo v) r (hi + heads_len c) (length (text_of c)) w4) where
       room : r ≤ length w2
       room = let a : hi + (heads_len c + length (text_of c)) + length rest ≡ length w = above in omega arith
@@ -117,12 +118,12 @@ module _ (w : List ℕ) (lo hi n on : ℕ) (order : lo ≤ hi) (end : hi ≤ len
           let old : ℕ = head_word (is_nil bs) (active yk c) (length (text_of c)) c.seq (byte_bits yk (own_byte c)) in
           let t : take r w2 ≡ below ++ (old ∷ further_words bs) = longer.1.0 fits in
           let z : get_or w2 lo 0 ≡ old = read_under w2 r (hi + heads_len c) below old (further_words bs) t lo long room fits in
-          let u : v ≡ head_word (is_nil bs) (eqb on 1) (length (text_of c)) c.seq (byte_bits yk (own_byte c)) =
-          val ∙ ap (λ (k : ℕ). k - k / 2 ^ 58 % 2 * 2 ^ 58 + on * 2 ^ 58) z
+          let u : v ≡ head_word (is_nil bs) on (length (text_of c)) c.seq (byte_bits yk (own_byte c)) =
+          val ∙ ap (λ (k : ℕ). k - k / 2 ^ 58 % 2 * 2 ^ 58 + from_bool on * 2 ^ 58) z
           ∙ act-set (is_nil bs) (active yk c) (length (text_of c)) c.seq (byte_bits yk (own_byte c)) on f.count f.below
-          (bits_below yk (own_byte c) f.first) two in
+          (bits_below yk (own_byte c) f.first) in
           write_under w2 r (hi + heads_len c) below old (further_words bs) t lo long room fits v
-          ∙ (λ i. below ++ (u i ∷ further_words bs)) ∙ ap (λ (l : List ℕ). below ++ l) (with-is yk c n on two out)
+          ∙ (λ i. below ++ (u i ∷ further_words bs)) ∙ ap (λ (l : List ℕ). below ++ l) (with-is yk c n on out)
 
       still : drop (hi + heads_len c) (set w2 lo v) ≡ text_of c ++ rest
       still =
@@ -137,18 +138,18 @@ module _ (w : List ℕ) (lo hi n on : ℕ) (order : lo ≤ hi) (end : hi ≤ len
           record { under = p.0 ∙ append_assoc below (heads_of yk (with_byte (byte_of n on) c)) (text_of c); over = p.1 }
 
 -- the same, by what was seen
-module _ (w : List ℕ) (g : Gap) (n on : ℕ) (order : Ordered w g) (two : on < 2) (s : Seen) (sees : SeesAny w g.hi s) where
+module _ (w : List ℕ) (g : Gap) (n : ℕ) (on : Bool) (order : Ordered w g) (s : Seen) (sees : SeesAny w g.hi s) where
   pub mark-bad : length w < g.hi + s.heads + s.count → (v : List ℕ) (h : Gap) → Marks w g n on v h
   mark-bad short v h yk c below rest part f out =
       let z = sees yk c rest part.over f in
       let a : g.hi + (heads_len c + length (text_of c)) + length rest ≡ length w =
-      above w g.lo g.hi n on order.0 order.1 two yk c below rest part.under part.over f out in
+      above w g.lo g.hi n on order.0 order.1 yk c below rest part.under part.over f out in
       let b : s.heads ≡ heads_len c = z.heads in
       let d : s.count ≡ length (text_of c) = z.count in
       absurd (omega arith)
 
   module _ (w1 : List ℕ) (s1 : Lowered w g.lo g.hi s.heads w1) (len1 : length w1 ≡ length w)
-      (r : ℕ) (w2 : List ℕ) (s2 : ByteAdded w1 (g.lo + s.heads) (g.hi + s.heads) (on * 65536 + n) r w2) (len2 : length w2 ≡ length w1) where
+      (r : ℕ) (w2 : List ℕ) (s2 : ByteAdded w1 (g.lo + s.heads) (g.hi + s.heads) (from_bool on * 65536 + n) r w2) (len2 : length w2 ≡ length w1) where
     abbrev next : Gap
     next = record { lo = r + s.count; hi = g.hi + s.heads + s.count }
 
@@ -161,18 +162,18 @@ module _ (w : List ℕ) (g : Gap) (n on : ℕ) (order : Ordered w g) (two : on <
         let b : s.heads ≡ heads_len c = z.heads in
         let d : s.count ≡ length (text_of c) = z.count in
         let a : g.hi + (heads_len c + length (text_of c)) + length rest ≡ length w =
-        above w g.lo g.hi n on order.0 order.1 two yk c below rest part.under part.over f out in
+        above w g.lo g.hi n on order.0 order.1 yk c below rest part.under part.over f out in
         let q =
-        size_is w g.lo g.hi n on order.0 order.1 two yk c below rest part.under part.over f out w1 (rw b at s1) len1 r w2
+        size_is w g.lo g.hi n on order.0 order.1 yk c below rest part.under part.over f out w1 (rw b at s1) len1 r w2
         (rw b at s2) len2 in
         record { parted = put yk c below rest part f out b d; size = ap (λ (k : ℕ). r + k) d ∙ q; above = omega arith }
 
     pub mark-none : g.hi + s.heads < r → Marks w g n on w2 next
     mark-none over = sized w2 (λ yk c below rest part f out b d h. absurd (omega arith))
 
-    pub mark-done : r ≤ g.hi + s.heads → (v : ℕ) → v ≡ get_or w2 g.lo 0 - get_or w2 g.lo 0 / 2 ^ 58 % 2 * 2 ^ 58 + on * 2 ^ 58
+    pub mark-done : r ≤ g.hi + s.heads → (v : ℕ) → v ≡ get_or w2 g.lo 0 - get_or w2 g.lo 0 / 2 ^ 58 % 2 * 2 ^ 58 + from_bool on * 2 ^ 58
         → (w4 : List ℕ) → Lowered (set w2 g.lo v) r (g.hi + s.heads) s.count w4 → Marks w g n on w4 next
     mark-done fits v val w4 s4 =
         sized w4 (λ yk c below rest part f out b d h.
-        rw (b, d) (done w g.lo g.hi n on order.0 order.1 two yk c below rest part.under part.over f out w1 (rw b at s1) len1 r w2
+        rw (b, d) (done w g.lo g.hi n on order.0 order.1 yk c below rest part.under part.over f out w1 (rw b at s1) len1 r w2
         (rw b at s2) len2 (rw b at fits) v val w4 (rw (b, d) at s4)))

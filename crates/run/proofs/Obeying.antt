@@ -103,11 +103,11 @@ module _ (w dir names decks flags : List ℕ) (d : Desk) (line : List ℕ) (r : 
       → ObeysLine (in_arrays w dir names decks flags) d line (in_arrays v dir names decks flags) r
   before-obeys c v e h s held = h names flags line s e held
 
-  pub delete-obeys : (a b : CardName) (v newFlags : List ℕ) → directive line ≡ Delete a b → MarkSteps w dir decks flags d 1 a b v newFlags r
+  pub delete-obeys : (a b : CardName) (v newFlags : List ℕ) → directive line ≡ Delete a b → MarkSteps w dir decks flags d true a b v newFlags r
       → ObeysLine (in_arrays w dir names decks flags) d line (in_arrays v dir names decks newFlags) r
   delete-obeys a b v newFlags e h s held = h names line s e held
 
-  pub restore-obeys : (a b : CardName) (v newFlags : List ℕ) → directive line ≡ Restore a b → MarkSteps w dir decks flags d 0 a b v newFlags r
+  pub restore-obeys : (a b : CardName) (v newFlags : List ℕ) → directive line ≡ Restore a b → MarkSteps w dir decks flags d false a b v newFlags r
       → ObeysLine (in_arrays w dir names decks flags) d line (in_arrays v dir names decks newFlags) r
   restore-obeys a b v newFlags e h s held = h names line s e held
 

@@ -27,13 +27,13 @@ unfolding step
 range-asked s line true p q asks = ap (obey s line) asks
 range-asked s line false p q asks = ap (obey s line) asks
 
-module _ (w dir decks flags : List ℕ) (d : Desk) (was : ℕ) (p q : CardName) (v newFlags names line : List ℕ) (s : State)
-    (asks : directive line ≡ asks_mark (eqb was 1) p q) (held : Held w dir names decks flags d s) where
-  obeyed : (b : Bool) (x y : Option Spot) → d.set ≡ b → find s.lib p ≡ x → find s.lib q ≡ y → step s line ≡ refuse (not b) Nowhere (mark_range s (eqb was 1) x y)
+module _ (w dir decks flags : List ℕ) (d : Desk) (was : Bool) (p q : CardName) (v newFlags names line : List ℕ) (s : State)
+    (asks : directive line ≡ asks_mark was p q) (held : Held w dir names decks flags d s) where
+  obeyed : (b : Bool) (x y : Option Spot) → d.set ≡ b → find s.lib p ≡ x → find s.lib q ≡ y → step s line ≡ refuse (not b) Nowhere (mark_range s was x y)
   obeyed b x y e f g =
-      range-asked s line (eqb was 1) p q asks
-      ∙ ap (λ (c : Bool). refuse (not c) Nowhere (mark_range s (eqb was 1) (find s.lib p) (find s.lib q))) (sym held.set ∙ e)
-      ∙ ap₂ (λ (a c : Option Spot). refuse (not b) Nowhere (mark_range s (eqb was 1) a c)) f g
+      range-asked s line was p q asks
+      ∙ ap (λ (c : Bool). refuse (not c) Nowhere (mark_range s was (find s.lib p) (find s.lib q))) (sym held.set ∙ e)
+      ∙ ap₂ (λ (a c : Option Spot). refuse (not b) Nowhere (mark_range s was a c)) f g
 
   off : (y : Why) (r : Step) → step s line ≡ r → r ≡ refused y → Answered v dir names decks newFlags (Err y) (step s line)
   off y r e f = subst (λ (x : Step). Answered v dir names decks newFlags (Err y) x) (sym (e ∙ f)) refl
@@ -56,7 +56,7 @@ module _ (w dir decks flags : List ℕ) (d : Desk) (was : ℕ) (p q : CardName) 
       no_last le (some a) (some b) e g h = absurd (omega (arith, h.index, spot-below s.lib b h.stood, held.cards))
 
       abbrev rest : Spot → Spot → Step
-      rest a b = refuse (is_barred a b) Barred (limited (after_mark s (eqb was 1) a b))
+      rest a b = refuse (is_barred a b) Barred (limited (after_mark s was a b))
 
       ranged : (a b : Spot) (c : Bool) → is_backwards a b ≡ c → find s.lib p ≡ some a → find s.lib q ≡ some b → step s line ≡ refuse c Backwards (rest a b)
       ranged a b c e x y = obeyed true (some a) (some b) on x y ∙ ap (λ (z : Bool). refuse z Backwards (rest a b)) e
@@ -84,7 +84,7 @@ pub same-card : (w dir : List ℕ) (d : Desk) (p q : CardName) (f : Sought) → 
 same-card w dir d p q f n s first = subst (λ (r : CardName). SeeksCard w dir d r f) (λ i. record { name = n i; seq = s i }) first
 
 -- THE ANSWERS
-module _ (w dir decks flags : List ℕ) (d : Desk) (was : ℕ) (p q : CardName) (v newFlags : List ℕ) where
+module _ (w dir decks flags : List ℕ) (d : Desk) (was : Bool) (p q : CardName) (v newFlags : List ℕ) where
   pub mark-off : d.set ≡ false → MarkSteps w dir decks flags d was p q v newFlags (Err Nowhere)
   mark-off e names line s asks held = no-set w dir decks flags d was p q v newFlags names line s asks held e
 

@@ -63,13 +63,13 @@ over-range f zero (suc j) (c ∷ cs) h =
     ap {B = List Card} (λ t. f c ∷ t) (over-range f zero j cs (omega arith))
     ∙ (λ k. map f (take (sym n k) (c ∷ cs)) ++ drop (sym m k) (c ∷ cs))
 
-pub range-stream : (yk : ℕ → Bool) (was n i j : ℕ) (cs : List Card) → i ≤ j
+pub range-stream : (yk : ℕ → Bool) (was : Bool) (n i j : ℕ) (cs : List Card) → i ≤ j
     → (take i cs ++ mark_all yk was n (range_of i j cs)) ++ drop (j + 1) cs ≡ over_range (mark_one yk was n) i j cs
 unfolding mark_all
 range-stream yk was n i j cs h =
     append_assoc (take i cs) (map (mark_one yk was n) (range_of i j cs)) (drop (j + 1) cs) ∙ sym (over-range (mark_one yk was n) i j cs h)
 
 -- no card is added or lost
-pub marks-count : (yk : ℕ → Bool) (was n : ℕ) (cs : List Card) → length (mark_all yk was n cs) ≡ length cs
+pub marks-count : (yk : ℕ → Bool) (was : Bool) (n : ℕ) (cs : List Card) → length (mark_all yk was n cs) ≡ length cs
 unfolding mark_all
 marks-count yk was n cs = length-map cs (mark_one yk was n)

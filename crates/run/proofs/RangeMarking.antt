@@ -63,11 +63,11 @@ stream-words yk l =
     let ds : List Card = joined (map deck_cards l.decks) in
     ap length (cards-append yk l.yanks ds) ∙ length-append (cards_words yk l.yanks) (cards_words yk ds)
 
-module _ (w dir decks flags : List ℕ) (d : Desk) (was : ℕ) (f q : Sought) (seq : ℕ) (sane : Sane w d) (le : f.index ≤ q.index)
+module _ (w dir decks flags : List ℕ) (d : Desk) (was : Bool) (f q : Sought) (seq : ℕ) (sane : Sane w d) (le : f.index ≤ q.index)
     (u : List ℕ) (h : Gap) (half : length u ≡ length w) (order : Ordered w h) (opens : OpensAhead w d.gap f.at u h)
     (names line : List ℕ) (s : State) (pn qn : CardName) (a b : Spot) (held : Held w dir names decks flags d s) (set : T (is_set s.kind)) (sq : seq ≡ qn.seq)
     (sa : SoughtAt s.lib d.gap held.below held.above pn f a) (sb : SoughtAt s.lib d.gap held.below held.above qn q b)
-    (obeyed : step s line ≡ refuse (is_barred a b) Barred (limited (after_mark s (eqb was 1) a b))) where
+    (obeyed : step s line ≡ refuse (is_barred a b) Barred (limited (after_mark s was a b))) where
   abbrev l : Library
   l = s.lib
 
@@ -111,11 +111,11 @@ module _ (w dir decks flags : List ℕ) (d : Desk) (was : ℕ) (f q : Sought) (s
   range-barred : HasTitle u decks h.hi (j - i + 1) true → (v newFlags : List ℕ) → Answered v dir names decks newFlags (Err Barred) (step s line)
   range-barred titles v newFlags =
       subst (λ (x : Step). Answered v dir names decks newFlags (Err Barred) x)
-      (sym (obeyed ∙ ap (λ (x : Bool). refuse x Barred (limited (after_mark s (eqb was 1) a b))) (barred-is true titles))) refl
+      (sym (obeyed ∙ ap (λ (x : Bool). refuse x Barred (limited (after_mark s was a b))) (barred-is true titles))) refl
 
   module _ (titles : HasTitle u decks h.hi (j - i + 1) false) (v : List ℕ) (r : Result Gap Why) (full : length v ≡ length w) (marked : MarksTo u h q.own seq was d.entries v r) where
     abbrev t : State
-    t = after_mark s (eqb was 1) a b
+    t = after_mark s was a b
 
     goes : step s line ≡ limited t
     goes = obeyed ∙ ap (λ (x : Bool). refuse x Barred (limited t)) (barred-is false titles)
@@ -135,8 +135,8 @@ module _ (w dir decks flags : List ℕ) (d : Desk) (was : ℕ) (f q : Sought) (s
 
     streamed : stream t.lib ≡ nb ++ na
     streamed =
-        mark-flat l (eqb was 1) a b sb.stood one-part.0 one-part.1 (index-order l a b one-part.0 in_order)
-        ∙ ap₂ (λ (x y : ℕ). over_range (marks l (eqb was 1)) x y (stream l)) sa.index sb.index
+        mark-flat l was a b sb.stood one-part.0 one-part.1 (index-order l a b one-part.0 in_order)
+        ∙ ap₂ (λ (x y : ℕ). over_range (marks l was) x y (stream l)) sa.index sb.index
         ∙ sym (range-stream yk was (unit_number l) i j (stream l) le)
 
     last-index : index_of q.own seq (stream l) ≡ j
@@ -217,7 +217,7 @@ module _ (w dir decks flags : List ℕ) (d : Desk) (was : ℕ) (f q : Sought) (s
         last-part = ap (λ (p : ℕ). eqb p 0) (sym one-part.0) ∙ part
 
         same_flags : yanked t.lib 0 ≡ yk
-        same_flags = ap (λ (x : ℕ → ℕ → Bool). x 0) (mark-same-flags l (eqb was 1) a.part a.index b.index part)
+        same_flags = ap (λ (x : ℕ → ℕ → Bool). x 0) (mark-same-flags l was a.part a.index b.index part)
 
         below_length : length nb ≡ j + 1
         below_length =
@@ -232,7 +232,7 @@ module _ (w dir decks flags : List ℕ) (d : Desk) (was : ℕ) (f q : Sought) (s
             let g : flat l b ≡ j = sb.index in
             subst (λ (x : Bool). TextGoes t.lib (length nb) TextGap (if x then in_yanks else in_deck (b.part - 1) b.index)) (sym last-part)
             (subst (λ (p : ℕ). TextGoes t.lib (length nb) TextGap (in_deck (p - 1) b.index)) one-part.0
-            (mark-place l (eqb was 1) a.part a.index b.index (length nb) part stood (omega (arith, below_length))))
+            (mark-place l was a.part a.index b.index (length nb) part stood (omega (arith, below_length))))
 
         after : Safe t → Held v dir names decks flags (moved_desk d k (j + 1)) t
         after st = record {
@@ -242,9 +242,9 @@ module _ (w dir decks flags : List ℕ) (d : Desk) (was : ℕ) (f q : Sought) (s
           whole = sym streamed;
           low = sym below_length;
           cards = new-cards;
-          tables = mark-tables dir names decks d (moved_desk d k (j + 1)) l (eqb was 1) a.part a.index b.index refl refl held.tables;
-          yanks = held.yanks ∙ sym (mark-yanks l (eqb was 1) a.part a.index b.index);
-          leads = held.leads ∙ ap₂ (λ (x : ℕ → Bool) (y : List Card). length (cards_words x y)) (sym same_flags) (sym (mark-same-yanks l (eqb was 1) a.part a.index b.index part));
+          tables = mark-tables dir names decks d (moved_desk d k (j + 1)) l was a.part a.index b.index refl refl held.tables;
+          yanks = held.yanks ∙ sym (mark-yanks l was a.part a.index b.index);
+          leads = held.leads ∙ ap₂ (λ (x : ℕ → Bool) (y : List Card). length (cards_words x y)) (sym same_flags) (sym (mark-same-yanks l was a.part a.index b.index part));
           settled = λ n. held.settled n ∙ ap (λ (x : ℕ → Bool). x n) (sym same_flags);
           set = held.set;
           next = held.next;
@@ -254,7 +254,7 @@ module _ (w dir decks flags : List ℕ) (d : Desk) (was : ℕ) (f q : Sought) (s
 
         counted : Counted v (moved_desk d k (j + 1)) t.lib
         counted =
-            let tables = mark-tables dir names decks d (moved_desk d k (j + 1)) l (eqb was 1) a.part a.index b.index refl refl held.tables in
+            let tables = mark-tables dir names decks d (moved_desk d k (j + 1)) l was a.part a.index b.index refl refl held.tables in
             record {
               entries = tables.entries;
               decks = tables.count;
@@ -277,7 +277,7 @@ module _ (w dir decks flags : List ℕ) (d : Desk) (was : ℕ) (f q : Sought) (s
         remarked =
             let others : ℕ = length (cards_words yk (joined (map deck_cards l.decks))) in
             let same : length (cards_words yk (joined (map deck_cards t.lib.decks))) ≡ others =
-            ap (λ (ds : List Deck). length (cards_words yk (joined (map deck_cards ds)))) (mark-same-decks l (eqb was 1) a.part a.index b.index first_part) in
+            ap (λ (ds : List Deck). length (cards_words yk (joined (map deck_cards ds)))) (mark-same-decks l was a.part a.index b.index first_part) in
             let old : length (cards_words yk cs) ≡ d.gap.lo + (length w - d.gap.hi) = work-words w d.gap yk held.below held.above held.work sane.ordered in
             let whole : length (cards_words yk cs) ≡ length (cards_words yk (stream l)) = ap (λ (x : List Card). length (cards_words yk x)) held.whole in
             let lead : d.lead ≡ length (cards_words yk l.yanks) = held.leads in
@@ -288,8 +288,8 @@ module _ (w dir decks flags : List ℕ) (d : Desk) (was : ℕ) (f q : Sought) (s
               whole = sym streamed;
               cards = new-cards;
               short = new-short;
-              tables = mark-tables dir names decks d d l (eqb was 1) a.part a.index b.index refl refl held.tables;
-              yanks = held.yanks ∙ sym (mark-yanks l (eqb was 1) a.part a.index b.index);
+              tables = mark-tables dir names decks d d l was a.part a.index b.index refl refl held.tables;
+              yanks = held.yanks ∙ sym (mark-yanks l was a.part a.index b.index);
               others = others;
               before = omega (arith, stream-words yk l, full);
               after = omega (arith, stream-words yk t.lib, new-words);
@@ -302,7 +302,7 @@ module _ (w dir decks flags : List ℕ) (d : Desk) (was : ℕ) (f q : Sought) (s
         range-yanks x newFlags e goes_on = goes_on yk names decks line s t held.safe goes remarked
 
 -- THE ANSWERS
-module _ (w dir decks flags : List ℕ) (d : Desk) (was : ℕ) (f q : Sought) (seq : ℕ) (sane : Sane w d) (le : f.index ≤ q.index)
+module _ (w dir decks flags : List ℕ) (d : Desk) (was : Bool) (f q : Sought) (seq : ℕ) (sane : Sane w d) (le : f.index ≤ q.index)
     (u : List ℕ) (h : Gap) (half : length u ≡ length w) (order : Ordered w h) (opens : OpensAhead w d.gap f.at u h) where
   pub found-barred : HasTitle u decks h.hi (q.index - f.index + 1) true → (v newFlags : List ℕ) → MarksFound w dir decks flags d was f q seq v newFlags (Err Barred)
   found-barred titles v newFlags names line s pn qn a b held set sq sa sb obeyed =

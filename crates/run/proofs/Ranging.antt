@@ -23,56 +23,39 @@ use Rattle.run.specs.declared.gap.Gap.{Gap}
 use Rattle.run.specs.declared.card.Seen.{Seen}
 
 -- WHICH CARDS: the stored bit tells which
-module _ (yk : ℕ → Bool) (was n : ℕ) (c : Card) where
-  abbrev pub given : ℕ → Card
-  given k = record { line = c.line; seq = c.seq; owner = c.owner; later = c.later ++ (record { number = n; activating = not (eqb k 1) } ∷ []) }
+module _ (yk : ℕ → Bool) (was : Bool) (n : ℕ) (c : Card) where
+  abbrev pub given : Bool → Card
+  given k = record { line = c.line; seq = c.seq; owner = c.owner; later = c.later ++ (record { number = n; activating = not k } ∷ []) }
 
-  pub mark-yes : bit (active yk c) 0 ≡ was → mark_one yk was n c ≡ with_byte (byte_of n (1 - was)) c
+  pub mark-yes : beq (active yk c) was ≡ true → mark_one yk was n c ≡ with_byte (byte_of n (not was)) c
   unfolding with_byte
-  mark-yes e = go (active yk c) e
-    where
-      go : (a : Bool) → bit a 0 ≡ was → (if beq a (eqb was 1) then given was else c) ≡ with_byte (byte_of n (1 - was)) c
-      go true p = rw (sym p)
-      go false p = rw (sym p)
+  mark-yes e = ap (λ (b : Bool). if b then given was else c) e
 
-  pub mark-no : was < 2 → (bit (active yk c) 0 ≡ was → ⊥) → mark_one yk was n c ≡ c
-  mark-no two d = go (active yk c) (eqb was 1) refl d
-    where
-      go : (a b : Bool) → eqb was 1 ≡ b → (bit a 0 ≡ was → ⊥) → (if beq a b then given was else c) ≡ c
-      go true true e q = absurd (q (sym (eqb-true was 1 e)))
-      go true false e q = refl
-      go false true e q = refl
-      go false false e q =
-          absurd (q (let z : was ≡ 1 → ⊥ = λ h. let t : eqb was 1 ≡ true = rw h in let f : ◌≡◌ {A = ℕ} 0 1 = cc in omega arith in omega arith))
+  pub mark-no : beq (active yk c) was ≡ false → mark_one yk was n c ≡ c
+  mark-no e = ap (λ (b : Bool). if b then given was else c) e
 
 -- ONE CARD
-module _ (w : List ℕ) (g : Gap) (was n : ℕ) (order : Ordered w g) (two : was < 2) (s : Seen) (sees : SeesAny w g.hi s) where
-  abbrev on : ℕ
-  on = 1 - was
-
-  on-two : on < 2
-  on-two = omega arith
-
-  pub pass-marked : s.active ≡ was → FullAny w g.hi s.heads false → (v : List ℕ) (h : Gap) → Marks w g n (1 - was) v h → Passes w g was n v h
+module _ (w : List ℕ) (g : Gap) (was : Bool) (n : ℕ) (order : Ordered w g) (s : Seen) (sees : SeesAny w g.hi s) where
+  pub pass-marked : beq s.active was ≡ true → FullAny w g.hi s.heads false → (v : List ℕ) (h : Gap) → Marks w g n (not was) v h → Passes w g was n v h
   unfolding with_byte
   pass-marked is full v h m yk c below rest part f out =
       let z = sees yk c rest part.over f in
       let p = m yk c below rest part f out in
       let nf : length c.later < 63 = leb-false 63 (length c.later) (sym (full yk c rest part.over f z.heads)) in
-      let l : length (c.later ++ (byte_of n (1 - was) ∷ [])) ≡ length c.later + 1 = length-append c.later (byte_of n (1 - was) ∷ []) in
-      let sz : h.lo ≡ length (below ++ card_words yk (with_byte (byte_of n (1 - was)) c)) = p.size in
+      let l : length (c.later ++ (byte_of n (not was) ∷ [])) ≡ length c.later + 1 = length-append c.later (byte_of n (not was) ∷ []) in
+      let sz : h.lo ≡ length (below ++ card_words yk (with_byte (byte_of n (not was)) c)) = p.size in
       let ab : h.hi + length rest ≡ length w = p.above in
-      rw (mark-yes yk was n c (sym z.active ∙ is))
+      rw (mark-yes yk was n c (ap (λ (x : Bool). beq x was) (sym z.active) ∙ is))
       (record { parted = p.parted; above = λ q. p.above; short = λ q. omega arith; crowded = λ q t. omega arith })
 
   -- a history of 64 bytes takes no more
-  pub pass-full : s.active ≡ was → FullAny w g.hi s.heads true → (v : List ℕ) (h : Gap) → h.hi < h.lo → Passes w g was n v h
+  pub pass-full : beq s.active was ≡ true → FullAny w g.hi s.heads true → (v : List ℕ) (h : Gap) → h.hi < h.lo → Passes w g was n v h
   unfolding with_byte
   pass-full is full v h over yk c below rest part f out =
       let z = sees yk c rest part.over f in
       let nf : 63 ≤ length c.later = leb-true 63 (length c.later) (sym (full yk c rest part.over f z.heads)) in
-      let l : length (c.later ++ (byte_of n (1 - was) ∷ [])) ≡ length c.later + 1 = length-append c.later (byte_of n (1 - was) ∷ []) in
-      rw (mark-yes yk was n c (sym z.active ∙ is))
+      let l : length (c.later ++ (byte_of n (not was) ∷ [])) ≡ length c.later + 1 = length-append c.later (byte_of n (not was) ∷ []) in
+      rw (mark-yes yk was n c (ap (λ (x : Bool). beq x was) (sym z.active) ∙ is))
       (record {
         parted = λ q. absurd (omega arith);
         above = λ q. absurd (omega arith);
@@ -85,12 +68,12 @@ module _ (w : List ℕ) (g : Gap) (was n : ℕ) (order : Ordered w g) (two : was
   pass-bad short v h yk c below rest part f out =
       let z = sees yk c rest part.over f in
       let a : g.hi + (heads_len c + length (text_of c)) + length rest ≡ length w =
-      above w g.lo g.hi n on order.0 order.1 on-two yk c below rest part.under part.over f out in
+      above w g.lo g.hi n (not was) order.0 order.1 yk c below rest part.under part.over f out in
       let b : s.heads ≡ heads_len c = z.heads in
       let d : s.count ≡ length (text_of c) = z.count in
       absurd (omega arith)
 
-  pub pass_same : (s.active ≡ was → ⊥) → (v : List ℕ) → Lowered w g.lo g.hi (s.heads + s.count) v
+  pub pass_same : beq s.active was ≡ false → (v : List ℕ) → Lowered w g.lo g.hi (s.heads + s.count) v
       → Passes w g was n v (record { lo = g.lo + (s.heads + s.count); hi = g.hi + (s.heads + s.count) })
   pass_same differs v sh yk c below rest part f out =
       let z = sees yk c rest part.over f in
@@ -100,8 +83,8 @@ module _ (w : List ℕ) (g : Gap) (was n : ℕ) (order : Ordered w g) (two : was
       let l : length (card_words yk c) ≡ s.heads + s.count = omega arith in
       let p = lowered below (card_words yk c) rest sh part.under part.over l in
       let a : g.hi + (heads_len c + length (text_of c)) + length rest ≡ length w =
-      above w g.lo g.hi n on order.0 order.1 on-two yk c below rest part.under part.over f out in
-      rw (mark-no yk was n c two (λ e. differs (z.active ∙ e)))
+      above w g.lo g.hi n (not was) order.0 order.1 yk c below rest part.under part.over f out in
+      rw (mark-no yk was n c (ap (λ (x : Bool). beq x was) (sym z.active) ∙ differs))
       (record {
         parted = λ h. record { under = p.0; over = p.1 };
         above = λ q. omega arith;
@@ -130,15 +113,15 @@ byte-grows yk x c =
     further-grows (byte_bits yk x) (map (byte_bits yk) c.later) in
     omega arith
 
-pub mark-grows : (yk : ℕ → Bool) (was n : ℕ) (c : Card) → length (card_words yk c) ≤ length (card_words yk (mark_one yk was n c))
+pub mark-grows : (yk : ℕ → Bool) (was : Bool) (n : ℕ) (c : Card) → length (card_words yk c) ≤ length (card_words yk (mark_one yk was n c))
 unfolding with_byte
-mark-grows yk was n c = go (beq (active yk c) (eqb was 1))
+mark-grows yk was n c = go (beq (active yk c) was)
   where
     go : (b : Bool) → length (card_words yk c) ≤ length (card_words yk (if b then given yk was n c was else c))
-    go true = byte-grows yk (record { number = n; activating = not (eqb was 1) }) c
+    go true = byte-grows yk (record { number = n; activating = not was }) c
     go false = omega arith
 
-pub marks-grow : (yk : ℕ → Bool) (was n : ℕ) (cs : List Card) → length (cards_words yk cs) ≤ length (cards_words yk (mark_all yk was n cs))
+pub marks-grow : (yk : ℕ → Bool) (was : Bool) (n : ℕ) (cs : List Card) → length (cards_words yk cs) ≤ length (cards_words yk (mark_all yk was n cs))
 unfolding mark_all
 marks-grow yk was n [] = omega arith
 marks-grow yk was n (c ∷ cs) =
@@ -152,7 +135,7 @@ marks-grow yk was n (c ∷ cs) =
     omega arith
 
 -- THE RANGE: what is still ahead of the gap makes the goal
-pub record codes_left (w : List ℕ) (h : Gap) (stop was n : ℕ) (yk : ℕ → Bool) (cs : List Card) (below rest : List ℕ) : Type 0 where
+pub record codes_left (w : List ℕ) (h : Gap) (stop : ℕ) (was : Bool) (n : ℕ) (yk : ℕ → Bool) (cs : List Card) (below rest : List ℕ) : Type 0 where
   pub front : List ℕ
   pub ahead : List Card
   pub parted : Parted w h front (cards_words yk ahead ++ rest)
@@ -162,13 +145,13 @@ pub record codes_left (w : List ℕ) (h : Gap) (stop was n : ℕ) (yk : ℕ → 
   pub all_short : Each Short (mark_all yk was n ahead) → Each Short (mark_all yk was n cs)
   pub still-short : Each Short (mark_all yk was n cs) → Each Short (mark_all yk was n ahead)
 
-abbrev pub Lefts : List ℕ → Gap → ℕ → ℕ → ℕ → List ℕ → Gap → Type 0
+abbrev pub Lefts : List ℕ → Gap → ℕ → Bool → ℕ → List ℕ → Gap → Type 0
 Lefts w g stop was n v h =
     (yk : ℕ → Bool) (cs : List Card) (below rest : List ℕ) → Parted w g below (cards_words yk cs ++ rest) → g.hi + length (cards_words yk cs) ≡ stop
     → Each Fits cs → yk n ≡ false
     → codes_left v h stop was n yk cs below rest
 
-module _ (w : List ℕ) (g : Gap) (stop was n : ℕ) where
+module _ (w : List ℕ) (g : Gap) (stop : ℕ) (was : Bool) (n : ℕ) where
   pub range-start : Lefts w g stop was n w g
   range-start yk cs below rest p l f out =
       record { front = below; ahead = cs; parted = p; left = l; fit = f; same = refl; all_short = λ a. a; still-short = λ a. a }

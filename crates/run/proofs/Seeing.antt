@@ -3,14 +3,15 @@ use Prim.Native.Nat.{ℕ, ◌/◌, ◌%◌, ◌^◌, ◌<◌}
 use native.Mathlib.Omega.{arith}
 use native.Mathlib.Nat.{add-zero}
 use mathlib.Core.Path.{◌≡◌, refl, sym, ap, ◌∙◌}
-use mathlib.Core.Bool.{Bool}
+use mathlib.Core.Bool.{Bool, true, false}
+use lib.Dec.{eqb}
 use mathlib.Core.List.{List, ◌++◌, map, append_assoc}
 use lib.ListN.{length, drop, get_or}
 use lib.Seq.{get_or-drop}
 use Rattle.words.specs.Base.{is_nil}
 use Rattle.library.specs.Library.{Card}
 use Rattle.library.specs.Yanks.{active}
-use Rattle.library.specs.Image.{byte_bits, card_words}
+use Rattle.library.specs.Image.{bit, byte_bits, card_words}
 use Rattle.run.specs.CardHeads.{own_byte, text_of, head_word, heads_of, heads_len, Fits, head_len, SeesAny}
 use Rattle.run.specs.declared.card.Seen.{Seen}
 use Rattle.run.proofs.Heads.{bits_below, bits-number, bits-raw, heads-len, heads-read, byte-back, seq-back, count-back, act-back}
@@ -31,7 +32,7 @@ module _ (w : List ℕ) (at : ℕ) (yk : ℕ → Bool) (c : Card) (rest : List �
       ∙ heads-len yk c)
 
 pub seen : (w : List ℕ) (at : ℕ) (r : Seen) → r.owner ≡ get_or w at 0 % 65536 → r.seq ≡ get_or w at 0 / 262144 % 262144
-    → r.active ≡ get_or w at 0 / 288230376151711744 % 2 → r.heads ≡ head_len (drop at w) → r.count ≡ get_or w at 0 / 68719476736 % 262144 → SeesAny w at
+    → r.active ≡ eqb (get_or w at 0 / 288230376151711744 % 2) 1 → r.heads ≡ head_len (drop at w) → r.count ≡ get_or w at 0 / 68719476736 % 262144 → SeesAny w at
     r
 seen w at r o s a h n yk c rest here f =
     let e : Bool = is_nil (map (byte_bits yk) c.later) in
@@ -44,11 +45,15 @@ seen w at r o s a h n yk c rest here f =
     record {
       owner = o ∙ ap (λ (y : ℕ). y % 65536) x ∙ own (head_of yk c) b c.owner low num;
       seq = s ∙ ap (λ (y : ℕ). y / 262144 % 262144) x ∙ seq-back t c.seq b f.count f.below lb e (active yk c);
-      active = a ∙ ap (λ (y : ℕ). y / 288230376151711744 % 2) x ∙ act-back t c.seq b f.count f.below lb e (active yk c);
+      active = a ∙ ap (λ (y : ℕ). eqb (y / 288230376151711744 % 2) 1) x ∙ ap (λ (y : ℕ). eqb y 1) (act-back t c.seq b f.count f.below lb e (active yk c)) ∙ bit-read (active yk c);
       heads = h ∙ heads-at w at yk c rest here f;
       count = n ∙ ap (λ (y : ℕ). y / 68719476736 % 262144) x ∙ count-back t c.seq b f.count f.below lb e (active yk c);
     }
   where
+    bit-read : (x : Bool) → eqb (bit x 0) 1 ≡ x
+    bit-read true = refl
+    bit-read false = refl
+
     own : (h b n : ℕ) → h % 2 ^ 18 ≡ b → b % 2 ^ 16 ≡ n → h % 65536 ≡ n
     own h b n p q = omega arith
 
@@ -58,7 +63,7 @@ seen_at w at =
     record {
       owner = get_or w at 0 % 65536;
       seq = get_or w at 0 / 262144 % 262144;
-      active = get_or w at 0 / 288230376151711744 % 2;
+      active = eqb (get_or w at 0 / 288230376151711744 % 2) 1;
       heads = head_len (drop at w);
       count = get_or w at 0 / 68719476736 % 262144;
     }

@@ -1,7 +1,9 @@
 -- Places in the array of cards, and sums of them: each fits a word, none being far past the array's end.
+use Rattle.std.specs.Int.{from_bool}
 use Prim.Native.Nat.{ℕ, ◌+◌, ◌-◌, ◌*◌, ◌≤◌, ◌<◌}
 use native.Mathlib.Omega.{arith}
 use mathlib.Core.Path.{◌≡◌}
+use mathlib.Core.Bool.{Bool, true, false}
 use mir.Syntax.{w64}
 use mir.Val.{Fits}
 
@@ -21,14 +23,9 @@ pub place_up : (n m : ℕ) → n ≤ m → n ≤ m + 1
 place_up n m p = omega arith
 
 -- a history byte
-pub on_fits : (on : ℕ) → on < 2 → Fits w64 (on * 65536)
-on_fits on p = record { fits = omega arith }
-
-pub byte-below : (on n : ℕ) → on < 2 → n < 65536 → on * 65536 + n < 262144
-byte-below on n p q = omega arith
-
-pub byte_fits : (on n : ℕ) → on < 2 → n < 65536 → Fits w64 (on * 65536 + n)
-byte_fits on n p q = record { fits = omega arith }
+pub byte-below : (on : Bool) (n : ℕ) → n < 65536 → from_bool on * 65536 + n < 262144
+byte-below true n q = omega arith
+byte-below false n q = omega arith
 
 -- a lower place, so many words on
 pub lower-sum : (r h k n : ℕ) → r ≤ h → h + k ≤ n → r + k ≤ n
@@ -222,12 +219,6 @@ past_one n = omega arith
 
 pub not-past : (n : ℕ) → n + 1 ≤ n → ⊥
 not-past n p = omega arith
-
-pub bit-one : (b : ℕ) → b < 2 → b ≤ 1
-bit-one b p = omega arith
-
-pub bit-other : (b : ℕ) → 1 - b < 2
-bit-other b = omega arith
 
 pub words-fit : (h k m n : ℕ) → h + k ≤ n → n ≤ 65536 → m < 262144 → Fits w64 (k + m)
 words-fit h k m n p q r = record { fits = omega arith }

@@ -31,17 +31,17 @@ each_snoc : (x : Byte) → FitsByte x → (bs : List Byte) → Each FitsByte bs 
 each_snoc x fx [] f = (fx, tt)
 each_snoc x fx (b ∷ bs) f = (f.0, each_snoc x fx bs f.1)
 
-mark-fits : (yk : ℕ → Bool) (was n : ℕ) → 0 < n → n < 65536 → (c : Card) → Fits c → Short (mark_one yk was n c) → Fits (mark_one yk was n c)
-mark-fits yk was n pos low c f = go (beq (active yk c) (eqb was 1))
+mark-fits : (yk : ℕ → Bool) (was : Bool) (n : ℕ) → 0 < n → n < 65536 → (c : Card) → Fits c → Short (mark_one yk was n c) → Fits (mark_one yk was n c)
+mark-fits yk was n pos low c f = go (beq (active yk c) was)
   where
-    more : Each FitsByte (c.later ++ (record { number = n; activating = not (eqb was 1) } ∷ []))
-    more = each_snoc (record { number = n; activating = not (eqb was 1) }) (pos, low) c.later f.later
+    more : Each FitsByte (c.later ++ (record { number = n; activating = not was } ∷ []))
+    more = each_snoc (record { number = n; activating = not was }) (pos, low) c.later f.later
 
     go : (b : Bool) → Short (if b then given yk was n c was else c) → Fits (if b then given yk was n c was else c)
     go true s = record { count = f.count; above = f.above; below = f.below; first = f.first; later = more; short = s }
     go false s = f
 
-pub marks-fit : (yk : ℕ → Bool) (was n : ℕ) → 0 < n → n < 65536 → (cs : List Card) → Each Fits cs → Each Short (mark_all yk was n cs)
+pub marks-fit : (yk : ℕ → Bool) (was : Bool) (n : ℕ) → 0 < n → n < 65536 → (cs : List Card) → Each Fits cs → Each Short (mark_all yk was n cs)
     → Each Fits (mark_all yk was n cs)
 unfolding mark_all
 marks-fit yk was n pos low [] f s = tt
@@ -64,7 +64,7 @@ all_short (c ∷ cs) e =
     (omega arith, all_short cs p.1)
 
 -- DELETE, RESTORE: the cards cs2 from the gap on are marked and stand below it
-pub work-mark : (w : List ℕ) (g : Gap) (stop was n : ℕ) (v : List ℕ) (h : Gap) → MarksRange w g stop was n v h
+pub work-mark : (w : List ℕ) (g : Gap) (stop : ℕ) (was : Bool) (n : ℕ) (v : List ℕ) (h : Gap) → MarksRange w g stop was n v h
     → (yk : ℕ → Bool) (cs1 cs2 cs3 : List Card) → Work w g yk cs1 (cs2 ++ cs3) → Each Fits cs2 → Each Fits cs3
     → g.hi + length (cards_words yk cs2) ≡ stop → yk n ≡ false → 0 < n → n < 65536 → h.lo ≤ h.hi → Work v h yk (cs1 ++ mark_all yk was n cs2) cs3
 work-mark w g stop was n v h marks yk cs1 cs2 cs3 k f2 f3 e out pos low room =

@@ -12,9 +12,9 @@ use Rattle.run.specs.CardHeads.{Fits, card_of}
 use Rattle.run.specs.GapWords.{Parted, Put}
 use Rattle.run.specs.declared.gap.Gap.{Gap}
 
--- on: 1 for an activating byte, 0 for one that is not
-abbrev pub byte_of : ℕ → ℕ → Byte
-byte_of n on = record { number = n; activating = eqb on 1 }
+-- a byte of the set n: activating, or not
+abbrev pub byte_of : ℕ → Bool → Byte
+byte_of n on = record { number = n; activating = on }
 
 unfoldable pub with_byte : Byte → Card → Card
 with_byte x c = record { line = c.line; seq = c.seq; owner = c.owner; later = c.later ++ (x ∷ []) }
@@ -34,16 +34,16 @@ pub record ByteAdded (w : List ℕ) (lo hi x r : ℕ) (v : List ℕ) : Type 0 wh
   pub over : drop hi v ≡ drop hi w
 
 -- the card above the gap comes below it, with one byte more of a set that is not yanked
-abbrev pub Marks : List ℕ → Gap → ℕ → ℕ → List ℕ → Gap → Type 0
+abbrev pub Marks : List ℕ → Gap → ℕ → Bool → List ℕ → Gap → Type 0
 Marks w g n on v h =
     (yk : ℕ → Bool) (c : Card) (below rest : List ℕ) → Parted w g below (card_words yk c ++ rest) → Fits c → yk n ≡ false
     → Put w (card_words yk (with_byte (byte_of n on) c)) below rest v h
 
--- DELETE (was 1), RESTORE (was 0): each card of a range that is active, or is not, as `was` says, gets one more byte, of set n
-abbrev pub mark_one : (ℕ → Bool) → ℕ → ℕ → Card → Card
-mark_one yk was n c = marked yk (eqb was 1) n c
+-- DELETE of what was active, RESTORE of what was not: each card of a range that is active, or is not, as `was` says, gets one more byte, of set n
+abbrev pub mark_one : (ℕ → Bool) → Bool → ℕ → Card → Card
+mark_one yk was n c = marked yk was n c
 
-unfoldable pub mark_all : (ℕ → Bool) → ℕ → ℕ → List Card → List Card
+unfoldable pub mark_all : (ℕ → Bool) → Bool → ℕ → List Card → List Card
 mark_all yk was n cs = map (mark_one yk was n) cs
 
 -- one card passes the gap and is then c; lo passes hi where its history or the words would be too long, and only there
@@ -56,7 +56,7 @@ pub record Passed (w : List ℕ) (yk : ℕ → Bool) (c : Card) (below rest : Li
   pub short : h.lo ≤ h.hi → Short c
   pub crowded : h.hi < h.lo → Short c → length w < length (below ++ card_words yk c) + length rest
 
-abbrev pub Passes : List ℕ → Gap → ℕ → ℕ → List ℕ → Gap → Type 0
+abbrev pub Passes : List ℕ → Gap → Bool → ℕ → List ℕ → Gap → Type 0
 Passes w g was n v h =
     (yk : ℕ → Bool) (c : Card) (below rest : List ℕ) → Parted w g below (card_words yk c ++ rest) → Fits c → yk n ≡ false
     → Passed w yk (mark_one yk was n c) below rest v h
@@ -67,7 +67,7 @@ pub record Ranged (w : List ℕ) (yk : ℕ → Bool) (cs : List Card) (below res
   pub short : h.lo ≤ h.hi → Each Short cs
   pub crowded : h.hi < h.lo → Each Short cs → length w < length (below ++ cards_words yk cs) + length rest
 
-abbrev pub MarksRange : List ℕ → Gap → ℕ → ℕ → ℕ → List ℕ → Gap → Type 0
+abbrev pub MarksRange : List ℕ → Gap → ℕ → Bool → ℕ → List ℕ → Gap → Type 0
 MarksRange w g stop was n v h =
     (yk : ℕ → Bool) (cs : List Card) (below rest : List ℕ) → Parted w g below (cards_words yk cs ++ rest) → g.hi + length (cards_words yk cs) ≡ stop
     → Each Fits cs → yk n ≡ false → Ranged w yk (mark_all yk was n cs) below rest v h

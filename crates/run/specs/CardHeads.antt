@@ -57,7 +57,7 @@ beyond w at = at + head_len (drop at w) + get_or w at 0 / 2 ^ 36 % 2 ^ 18
 pub record Sees (yk : ℕ → Bool) (c : Card) (r : Seen) : Type 0 where
   pub owner : r.owner ≡ c.owner
   pub seq : r.seq ≡ c.seq
-  pub active : r.active ≡ bit (active yk c) 0
+  pub active : r.active ≡ active yk c
   pub heads : r.heads ≡ heads_len c
   pub count : r.count ≡ length (text_of c)
 

@@ -60,9 +60,9 @@ pub record GoesOn (w dir flags : List ℕ) (d : Desk) (first last : ℕ) (k : Ga
   pub decks : d.yanks ≤ first → (v ≡ w) × ((newFlags ≡ flags) × (e ≡ fitted (moved_desk d k (last + 1))))
 
 -- A RANGE THAT WAS FOUND, in a set and not backwards
-abbrev pub MarksFound : List ℕ → List ℕ → List ℕ → List ℕ → Desk → ℕ → Sought → Sought → ℕ → List ℕ → List ℕ → Result Desk Why → Type 0
+abbrev pub MarksFound : List ℕ → List ℕ → List ℕ → List ℕ → Desk → Bool → Sought → Sought → ℕ → List ℕ → List ℕ → Result Desk Why → Type 0
 MarksFound w dir decks flags d was f l seq v newFlags e =
     (names line : List ℕ) (s : State) (p q : CardName) (a b : Spot) (held : Held w dir names decks flags d s) → T (is_set s.kind) → seq ≡ q.seq
     → SoughtAt s.lib d.gap held.below held.above p f a → SoughtAt s.lib d.gap held.below held.above q l b
-    → step s line ≡ refuse (is_barred a b) Barred (limited (after_mark s (eqb was 1) a b))
+    → step s line ≡ refuse (is_barred a b) Barred (limited (after_mark s was a b))
     → Answered v dir names decks newFlags e (step s line)

@@ -23,9 +23,9 @@ abbrev pub asks_mark : Bool → CardName → CardName → Line
 asks_mark true a b = Delete a b
 asks_mark false a b = Restore a b
 
-abbrev pub MarkSteps : List ℕ → List ℕ → List ℕ → List ℕ → Desk → ℕ → CardName → CardName → List ℕ → List ℕ → Result Desk Why → Type 0
+abbrev pub MarkSteps : List ℕ → List ℕ → List ℕ → List ℕ → Desk → Bool → CardName → CardName → List ℕ → List ℕ → Result Desk Why → Type 0
 MarkSteps w dir decks flags d was a b v newFlags e =
-    (names line : List ℕ) (s : State) → directive line ≡ asks_mark (eqb was 1) a b → Held w dir names decks flags d s
+    (names line : List ℕ) (s : State) → directive line ≡ asks_mark was a b → Held w dir names decks flags d s
     → Answered v dir names decks newFlags e (step s line)
 
 abbrev pub YankSteps : List ℕ → List ℕ → List ℕ → List ℕ → Desk → List ℕ → List ℕ → List ℕ → Result Desk Why → Type 0

@@ -88,14 +88,14 @@ abbrev pub KeepsOrder : List ℕ → Result Gap Why → Type 0
 KeepsOrder w (Ok h) = Ordered w h
 KeepsOrder w (Err y) = Unit {0}
 
-pub record MarkedTo (w : List ℕ) (yk : ℕ → Bool) (cs1 cs2 : List Card) (o s was n : ℕ) (v : List ℕ) (r : Result Gap Why) : Type 0 where
+pub record MarkedTo (w : List ℕ) (yk : ℕ → Bool) (cs1 cs2 : List Card) (o s : ℕ) (was : Bool) (n : ℕ) (v : List ℕ) (r : Result Gap Why) : Type 0 where
   pub missing : length cs2 ≤ index_of o s cs2 → r ≡ Err NoCard
   pub limit : index_of o s cs2 < length cs2 → within (length w) yk cs1 (mark_all yk was n (up_to o s cs2)) (beyond_card o s cs2) ≡ false → r ≡ Err Limit
   pub done :
       index_of o s cs2 < length cs2 → within (length w) yk cs1 (mark_all yk was n (up_to o s cs2)) (beyond_card o s cs2) ≡ true
       → (h : Gap) × ((r ≡ Ok h) × Work v h yk (cs1 ++ mark_all yk was n (up_to o s cs2)) (beyond_card o s cs2))
 
-abbrev pub MarksTo : List ℕ → Gap → ℕ → ℕ → ℕ → ℕ → List ℕ → Result Gap Why → Type 0
+abbrev pub MarksTo : List ℕ → Gap → ℕ → ℕ → Bool → ℕ → List ℕ → Result Gap Why → Type 0
 MarksTo w g o s was n v r = (yk : ℕ → Bool) (cs1 cs2 : List Card) → Work w g yk cs1 cs2 → yk n ≡ false → 0 < n → MarkedTo w yk cs1 cs2 o s was n v r
 
 -- the cards from index i up to index j
@@ -103,7 +103,7 @@ abbrev pub range_of : ℕ → ℕ → List Card → List Card
 range_of i j cs = take (j + 1 - i) (drop i cs)
 
 -- the same of all cards, from the one of index i, directly above the gap, up to the one named, of index j: the gap then stands directly after the range
-pub record MarkedBetween (w : List ℕ) (yk : ℕ → Bool) (cs : List Card) (i j was n : ℕ) (v : List ℕ) (r : Result Gap Why) : Type 0 where
+pub record MarkedBetween (w : List ℕ) (yk : ℕ → Bool) (cs : List Card) (i j : ℕ) (was : Bool) (n : ℕ) (v : List ℕ) (r : Result Gap Why) : Type 0 where
   pub limit : within (length w) yk (take i cs) (mark_all yk was n (range_of i j cs)) (drop (j + 1) cs) ≡ false → r ≡ Err Limit
   pub done :
       within (length w) yk (take i cs) (mark_all yk was n (range_of i j cs)) (drop (j + 1) cs) ≡ true

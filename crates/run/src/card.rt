@@ -1,5 +1,6 @@
 // A card's heads, the words of its history, as they stand in an array (RULES, "Cards").
 ghost use Rattle.std.specs.Prelude.{◌≡◌, true, false, ◌+◌, ◌-◌, ◌*◌, ◌/◌, ◌%◌, ◌^◌, ◌≤◌, ◌<◌, length, drop, leb, position};
+ghost use Rattle.std.specs.Int.{from_bool};
 ghost use Rattle.run.specs.CardHeads.{head_len, beyond, SeesAny, FullAny};
 
 use library::{ACTIVATING, ACTIVE, FIELD, LAST, MOST_HEADS, UPPER};
@@ -9,7 +10,7 @@ use library::{ACTIVATING, ACTIVE, FIELD, LAST, MOST_HEADS, UPPER};
 pub(crate) struct Seen {
     pub(crate) owner: u64,
     pub(crate) seq: u64,
-    pub(crate) active: u64,
+    pub(crate) active: bool,
     pub(crate) heads: usize,
     pub(crate) count: usize,
 }
@@ -42,7 +43,7 @@ pub(crate) fn see(w: &[u64], at: usize) -> Seen
     Seen {
         owner: x % ACTIVATING,
         seq: x / FIELD % FIELD,
-        active: x / ACTIVE % 2,
+        active: x / ACTIVE % 2 == 1,
         heads: n,
         count: (x / UPPER % FIELD) as usize,
     }
@@ -72,9 +73,8 @@ pub(crate) fn is_full(w: &[u64], at: usize, heads: usize) -> bool
 }
 
 // A first word with its activity bit set anew.
-pub(crate) fn with_active(h: u64, on: u64) -> u64
-    requires { on < 2 }
-    ensures { result ≡ h - h / 2 ^ 58 % 2 * 2 ^ 58 + on * 2 ^ 58 }
+pub(crate) fn with_active(h: u64, on: bool) -> u64
+    ensures { result ≡ h - h / 2 ^ 58 % 2 * 2 ^ 58 + from_bool on * 2 ^ 58 }
 {
-    h - h / ACTIVE % 2 * ACTIVE + on * ACTIVE
+    h - h / ACTIVE % 2 * ACTIVE + u64::from(on) * ACTIVE
 }

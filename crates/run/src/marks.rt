@@ -34,8 +34,8 @@ fn add_byte(w: &mut [u64], lo: usize, hi: usize, byte: u64) -> usize
 }
 
 // The card above the gap comes below it with one byte more, of the set n. Where there is no room, lo passes hi.
-fn mark_one(w: &mut [u64], g: Gap, n: u64, on: u64) -> Gap
-    requires { Ordered w.old g × ((g.hi < length w.old) × ((length w.old ≤ 65536) × ((n < 65536) × (on < 2)))) }
+fn mark_one(w: &mut [u64], g: Gap, n: u64, on: bool) -> Gap
+    requires { Ordered w.old g × ((g.hi < length w.old) × ((length w.old ≤ 65536) × (n < 65536))) }
     ensures hi_in_bounds { (result.hi ≤ length w.old) × (g.hi < result.hi) }
     ensures marks { Marks w.old g n on w.new result }
 {
@@ -51,7 +51,7 @@ fn mark_one(w: &mut [u64], g: Gap, n: u64, on: u64) -> Gap
         };
     }
     lower(w, lo, hi, heads);
-    let r = add_byte(w, lo + heads, hi + heads, on * ACTIVATING + n);
+    let r = add_byte(w, lo + heads, hi + heads, u64::from(on) * ACTIVATING + n);
     if hi + heads < r {
         return Gap {
             lo: r + count,
@@ -68,8 +68,8 @@ fn mark_one(w: &mut [u64], g: Gap, n: u64, on: u64) -> Gap
 
 // The card above the gap comes below it, with one byte more where its activity is `was`. Where its history would pass
 // 64 bytes, or the words the array, lo passes hi.
-fn pass_one(w: &mut [u64], g: Gap, was: u64, n: u64) -> Gap
-    requires { Ordered w.old g × ((g.hi < length w.old) × ((length w.old ≤ 65536) × ((n < 65536) × (was < 2)))) }
+fn pass_one(w: &mut [u64], g: Gap, was: bool, n: u64) -> Gap
+    requires { Ordered w.old g × ((g.hi < length w.old) × ((length w.old ≤ 65536) × (n < 65536))) }
     ensures hi_in_bounds { (result.hi ≤ length w.old) × (result.lo ≤ result.hi → g.hi < result.hi) }
     ensures passes { Passes w.old g was n w.new result }
 {
@@ -80,7 +80,7 @@ fn pass_one(w: &mut [u64], g: Gap, was: u64, n: u64) -> Gap
         if is_full(w, hi, c.heads) {
             return Gap { lo: hi + 1, hi: hi };
         }
-        return mark_one(w, g, n, 1 - was);
+        return mark_one(w, g, n, !was);
     }
     let k = c.heads + c.count;
     if w.len() < hi + k {
@@ -97,8 +97,8 @@ fn pass_one(w: &mut [u64], g: Gap, was: u64, n: u64) -> Gap
 }
 
 // The cards from the gap up to the word `stop` come below it, each whose activity is `was` with a byte more.
-fn mark_range(w: &mut [u64], g: Gap, stop: usize, was: u64, n: u64) -> Gap
-    requires { Ordered w.old g × ((stop ≤ length w.old) × ((length w.old ≤ 65536) × ((n < 65536) × (was < 2)))) }
+fn mark_range(w: &mut [u64], g: Gap, stop: usize, was: bool, n: u64) -> Gap
+    requires { Ordered w.old g × ((stop ≤ length w.old) × ((length w.old ≤ 65536) × (n < 65536))) }
     ensures hi_in_bounds { result.hi ≤ length w.old }
     ensures marks_range { MarksRange w.old g stop was n w.new result }
 {
@@ -114,10 +114,10 @@ fn mark_range(w: &mut [u64], g: Gap, stop: usize, was: u64, n: u64) -> Gap
     h
 }
 
-// DELETE (was 1) and RESTORE (was 0) by the set n, over the cards from the gap up to the one with this owner and number: the gap, now directly after
+// DELETE of what was active and RESTORE of what was not by the set n, over the cards from the gap up to the one with this owner and number: the gap, now directly after
 // that card, or why not (28, 31).
-pub(crate) fn mark_to(w: &mut [u64], g: Gap, owner: u64, seq: u64, was: u64, n: u64) -> Result<Gap, Why>
-    requires { Ordered w.old g × ((length w.old ≤ 65536) × ((n < 65536) × (was < 2))) }
+pub(crate) fn mark_to(w: &mut [u64], g: Gap, owner: u64, seq: u64, was: bool, n: u64) -> Result<Gap, Why>
+    requires { Ordered w.old g × ((length w.old ≤ 65536) × (n < 65536)) }
     ensures keeps_order { KeepsOrder w.old result }
     ensures marks_to { MarksTo w.old g owner seq was n w.new result }
 {

@@ -31,8 +31,8 @@ fn correct_line(
     match asked {
         Line::Insert(r) => insert_step(w, dir, d, r),
         Line::Before(r) => before_step(w, dir, decks, d, r),
-        Line::Delete(a, b) => mark_step(w, dir, decks, flags, d, 1, a, b),
-        Line::Restore(a, b) => mark_step(w, dir, decks, flags, d, 0, a, b),
+        Line::Delete(a, b) => mark_step(w, dir, decks, flags, d, true, a, b),
+        Line::Restore(a, b) => mark_step(w, dir, decks, flags, d, false, a, b),
         Line::Yank => yank_step(w, dir, names, flags, d, line),
         Line::Outside => Err(Why::Outside),
         Line::Long => Err(Why::Long),

@@ -100,12 +100,12 @@ fn mark_found(
     decks: &[u64],
     flags: &mut [u64],
     d: Desk,
-    was: u64,
+    was: bool,
     f: Sought,
     l: Sought,
     seq: u64,
 ) -> Result<Desk, Why>
-    requires { Sane w.old d × ((length dir.now ≡ 1024) × ((1024 < length flags.old) × ((was < 2) × ((f.index ≤ l.index) × (l.index < d.cards))))) }
+    requires { Sane w.old d × ((length dir.now ≡ 1024) × ((1024 < length flags.old) × ((f.index ≤ l.index) × (l.index < d.cards)))) }
     ensures sane_after { SaneAfter w.new result }
     ensures marks_found { MarksFound w.old dir.now decks.now flags.old d was f l seq w.new flags.new result }
 {
@@ -133,18 +133,18 @@ fn seek_last(w: &[u64], dir: &[u64], d: Desk, a: CardName, f: Sought, b: CardNam
     seek_card(w, dir, d, b)
 }
 
-// DELETE (was 1) and RESTORE (was 0).
+// DELETE of what was active, RESTORE of what was not.
 pub(crate) fn mark_step(
     w: &mut [u64],
     dir: &[u64],
     decks: &[u64],
     flags: &mut [u64],
     d: Desk,
-    was: u64,
+    was: bool,
     a: CardName,
     b: CardName,
 ) -> Result<Desk, Why>
-    requires { Sane w.old d × ((length dir.now ≡ 1024) × ((1024 < length decks.now) × ((1024 < length flags.old) × (was < 2)))) }
+    requires { Sane w.old d × ((length dir.now ≡ 1024) × ((1024 < length decks.now) × (1024 < length flags.old))) }
     ensures sane_after { SaneAfter w.new result }
     ensures mark_steps { MarkSteps w.old dir.now decks.now flags.old d was a b w.new flags.new result }
 {

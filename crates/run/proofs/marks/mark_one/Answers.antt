@@ -2,7 +2,7 @@
 use Prim.Native.Nat.{ℕ, ◌+◌, ◌≤◌, ◌<◌}
 use mathlib.Core.Path.{refl, sym, ◌∙◌, subst}
 use lib.ListN.{length, length-set}
-use Rattle.run.proofs.Sums.{place-fits, bytes_fit, past_fits, place_up, on_fits, byte-below, byte_fits, lower-sum, sum-order, sum-above, sum-some, below_end, same_place, order-on}
+use Rattle.run.proofs.Sums.{place-fits, bytes_fit, past_fits, place_up, byte-below, lower-sum, sum-order, sum-above, sum-some, below_end, same_place, order-on}
 use Rattle.run.proofs.Marking.{mark-bad, mark-none, mark-done}
 use Rattle.run.proofs.marks.mark_one.Goals as goal
 
@@ -22,7 +22,7 @@ pub returns-then-w-hi : goal.returns-then-w-hi
 returns-then-w-hi c =
     let a = c.args in
     let p = c.requires in
-    let s = c.see-c in record { hi_in_bounds = (same_place (length a.w.now), p.1.0); marks = mark-bad a.w.now a.g a.n a.on p.0 p.1.1.1.1 s.result s.ensures.sees_any c.if-w-hi.true _ _ }
+    let s = c.see-c in record { hi_in_bounds = (same_place (length a.w.now), p.1.0); marks = mark-bad a.w.now a.g a.n a.on p.0 s.result s.ensures.sees_any c.if-w-hi.true _ _ }
 
 pub lower-requires : goal.lower-requires
 lower-requires c = (c.requires.0.0, c.see-c.ensures.heads_in_bounds.0)
@@ -33,19 +33,13 @@ overflow_add-lo c = let s = c.see-c.ensures.heads_in_bounds.0 in place-fits _ _ 
 pub overflow_add-hi-3 : goal.overflow_add-hi-3
 overflow_add-hi-3 c = place-fits _ _ c.see-c.ensures.heads_in_bounds.0 c.requires.1.1.0
 
-pub overflow_mul-on : goal.overflow_mul-on
-overflow_mul-on c = on_fits _ c.requires.1.1.1.1
-
-pub overflow_add-on : goal.overflow_add-on
-overflow_add-on c = byte_fits _ _ c.requires.1.1.1.1 c.requires.1.1.1.0
-
 pub add_byte-r-requires : goal.add_byte-r-requires
 add_byte-r-requires c =
     let a = c.args in
     let p = c.requires in
     let s = c.see-c in
     let there = subst (λ (m : ℕ). a.g.hi + s.result.heads ≤ m) (sym c.lower.auto.w) s.ensures.heads_in_bounds.0 in
-    (sum-some _ _ s.ensures.heads_in_bounds.1.0, (sum-order _ _ _ p.0.0, (there, byte-below _ _ p.1.1.1.1 p.1.1.1.0)))
+    (sum-some _ _ s.ensures.heads_in_bounds.1.0, (sum-order _ _ _ p.0.0, (there, rw c.from.ensures (byte-below a.on a.n p.1.1.1))))
 
 pub overflow_add-hi-4 : goal.overflow_add-hi-4
 overflow_add-hi-4 c = place-fits _ _ c.see-c.ensures.heads_in_bounds.0 c.requires.1.1.0
@@ -73,8 +67,8 @@ returns-then-hi-heads c =
     let m = c.lower in
     let e = c.add_byte-r in record {
       hi_in_bounds = (c.if-w-hi.false, sum-above _ _ _ s.ensures.heads_in_bounds.1.0);
-      marks = mark-none a.w.now a.g a.n a.on p.0 p.1.1.1.1 s.result s.ensures.sees_any m.new.w m.ensures
-          m.auto.w e.result e.new.w e.ensures e.auto.w c.if-hi-heads.true;
+      marks = mark-none a.w.now a.g a.n a.on p.0 s.result s.ensures.sees_any m.new.w m.ensures
+          m.auto.w e.result e.new.w (rw c.from.ensures at e.ensures) e.auto.w c.if-hi-heads.true;
     }
 
 pub offset_bounds-w-lo : goal.offset_bounds-w-lo
@@ -83,9 +77,6 @@ offset_bounds-w-lo c = let p = c.requires in bytes_fit _ _ (order-on _ _ _ p.0.0
 pub bounds-w-lo : goal.bounds-w-lo
 bounds-w-lo c =
     subst (λ (k : ℕ). c.args.g.lo < k) (sym (c.add_byte-r.auto.w ∙ c.lower.auto.w)) (below_end _ _ _ c.requires.0.0 c.requires.1.0)
-
-pub with_active-requires : goal.with_active-requires
-with_active-requires c = c.requires.1.1.1.1
 
 pub offset_bounds-w-lo-2 : goal.offset_bounds-w-lo-2
 offset_bounds-w-lo-2 c = let p = c.requires in bytes_fit _ _ (order-on _ _ _ p.0.0 p.0.1) p.1.1.0
@@ -132,6 +123,6 @@ returns c =
     let t = c.lower-2 in
     let over = c.if-hi-heads.false in record {
       hi_in_bounds = (c.if-w-hi.false, sum-above _ _ _ s.ensures.heads_in_bounds.1.0);
-      marks = mark-done a.w.now a.g a.n a.on p.0 p.1.1.1.1 s.result s.ensures.sees_any m.new.w m.ensures m.auto.w
-          e.result e.new.w e.ensures e.auto.w over h.result h.ensures t.new.w t.ensures;
+      marks = mark-done a.w.now a.g a.n a.on p.0 s.result s.ensures.sees_any m.new.w m.ensures m.auto.w
+          e.result e.new.w (rw c.from.ensures at e.ensures) e.auto.w over h.result h.ensures t.new.w t.ensures;
     }

@@ -15,7 +15,7 @@ pub returns-then-end-at : goal.returns-then-end-at
 returns-then-end-at c =
     let a = c.args in
     let p = c.requires in
-    let f = c.find-b in record { keeps_order = tt; marks_to = to-missing a.w.now a.g p.0 a.owner a.seq a.was a.n p.1.1.0 f.result f.ensures.finds c.if-end-at.true _ _ refl }
+    let f = c.find-b in record { keeps_order = tt; marks_to = to-missing a.w.now a.g p.0 a.owner a.seq a.was a.n p.1.1 f.result f.ensures.finds c.if-end-at.true _ _ refl }
 
 pub see-c-requires : goal.see-c-requires
 see-c-requires c = c.if-end-at.false
@@ -35,13 +35,13 @@ returns-then-end-stop c =
     let p = c.requires in
     let f = c.find-b in record {
       keeps_order = tt;
-      marks_to = to-bad a.w.now a.g p.0 a.owner a.seq a.was a.n p.1.1.0 f.result f.ensures.finds
+      marks_to = to-bad a.w.now a.g p.0 a.owner a.seq a.was a.n p.1.1 f.result f.ensures.finds
           c.see-c.result c.see-c.ensures.sees_any c.if-end-at.false
           c.if-end-stop.true _ _ refl;
     }
 
 pub mark_range-h-requires : goal.mark_range-h-requires
-mark_range-h-requires c = let p = c.requires in (p.0, (c.if-end-stop.false, (p.1.0, (p.1.1.0, p.1.1.1))))
+mark_range-h-requires c = let p = c.requires in (p.0, (c.if-end-stop.false, p.1))
 
 pub shape_of-w-then-h : goal.shape_of-w-then-h
 shape_of-w-then-h c = c.mark_range-h.auto.w
@@ -53,7 +53,7 @@ returns-then-h c =
     let f = c.find-b in
     let m = c.mark_range-h in record {
       keeps_order = tt;
-      marks_to = to-crowded a.w.now a.g p.0 a.owner a.seq a.was a.n p.1.1.0 f.result f.ensures.finds
+      marks_to = to-crowded a.w.now a.g p.0 a.owner a.seq a.was a.n p.1.1 f.result f.ensures.finds
           c.see-c.result
           c.see-c.ensures.sees_any
           c.if-end-at.false m.new.w m.result
@@ -70,7 +70,7 @@ returns c =
     let f = c.find-b in
     let m = c.mark_range-h in record {
       keeps_order = (c.if-h.false, m.ensures.hi_in_bounds);
-      marks_to = to-done a.w.now a.g p.0 a.owner a.seq a.was a.n p.1.1.0 f.result f.ensures.finds
+      marks_to = to-done a.w.now a.g p.0 a.owner a.seq a.was a.n p.1.1 f.result f.ensures.finds
           c.see-c.result
           c.see-c.ensures.sees_any
           c.if-end-at.false m.new.w m.result

@@ -1,6 +1,6 @@
 -- The stored bit is the card's activity, so it tells whether the card gets a byte; one that has 64 refuses it.
 use mathlib.Core.Path.{refl}
-use Rattle.run.proofs.Sums.{place-fits, lower-sum, same_place, one_on, past_one, not-past, bit-one, bit-other, words-fit, words-on, words-above}
+use Rattle.run.proofs.Sums.{place-fits, lower-sum, same_place, one_on, past_one, not-past, words-fit, words-on, words-above}
 use Rattle.run.proofs.Ranging.{pass-marked, pass-full, pass-bad, pass_same}
 use Rattle.run.proofs.marks.pass_one.Goals as goal
 
@@ -22,15 +22,12 @@ returns-then-is_full c =
     let p = c.requires in
     let s = c.see-c in record {
       hi_in_bounds = (p.0.1, λ h. absurd (not-past _ h));
-      passes = pass-full a.w.now a.g a.was a.n p.0 p.1.1.1.1 s.result s.ensures.sees_any
+      passes = pass-full a.w.now a.g a.was a.n p.0 s.result s.ensures.sees_any
           c.if-c-was.true (rw c.if-is_full.true at c.is_full.ensures) _ _ (past_one _);
     }
 
-pub overflow_sub-was : goal.overflow_sub-was
-overflow_sub-was c = bit-one _ c.requires.1.1.1.1
-
 pub mark_one-requires : goal.mark_one-requires
-mark_one-requires c = let p = c.requires in (p.0, (p.1.0, (p.1.1.0, (p.1.1.1.0, bit-other _))))
+mark_one-requires c = let p = c.requires in p
 
 pub shape_of-w-then-c-was : goal.shape_of-w-then-c-was
 shape_of-w-then-c-was c = c.mark_one.auto.w
@@ -42,7 +39,7 @@ returns-then-c-was c =
     let s = c.see-c in
     let m = c.mark_one in record {
       hi_in_bounds = (m.ensures.hi_in_bounds.0, λ h. m.ensures.hi_in_bounds.1);
-      passes = pass-marked a.w.now a.g a.was a.n p.0 p.1.1.1.1 s.result s.ensures.sees_any
+      passes = pass-marked a.w.now a.g a.was a.n p.0 s.result s.ensures.sees_any
           c.if-c-was.true
           (rw c.if-is_full.false at c.is_full.ensures) m.new.w m.result
           m.ensures.marks;
@@ -63,7 +60,7 @@ returns-then-w-hi c =
     let p = c.requires in
     let s = c.see-c in record {
       hi_in_bounds = (same_place _, λ h. p.1.0);
-      passes = pass-bad a.w.now a.g a.was a.n p.0 p.1.1.1.1 s.result s.ensures.sees_any
+      passes = pass-bad a.w.now a.g a.was a.n p.0 s.result s.ensures.sees_any
           c.if-w-hi.true _ _;
     }
 
@@ -85,6 +82,6 @@ returns c =
     let p = c.requires in
     let s = c.see-c in record {
       hi_in_bounds = (c.if-w-hi.false, λ h. words-above _ _ _ s.ensures.heads_in_bounds.1.0);
-      passes = pass_same a.w.now a.g a.was a.n p.0 p.1.1.1.1 s.result s.ensures.sees_any
+      passes = pass_same a.w.now a.g a.was a.n p.0 s.result s.ensures.sees_any
           c.if-c-was.false c.lower.new.w c.lower.ensures;
     }

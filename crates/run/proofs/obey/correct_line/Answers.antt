@@ -12,10 +12,10 @@ pub before_step-requires : goal.before_step-requires
 before_step-requires c = let pre = c.requires in (pre.0, (pre.1.0, pre.1.1.1.0))
 
 pub mark_step-requires : goal.mark_step-requires
-mark_step-requires c = let pre = c.requires in (pre.0, (pre.1.0, (pre.1.1.1.0, (pre.1.1.1.1, omega arith))))
+mark_step-requires c = let pre = c.requires in (pre.0, (pre.1.0, pre.1.1.1))
 
 pub mark_step-requires-in-Restore : goal.mark_step-requires-in-Restore
-mark_step-requires-in-Restore c = let pre = c.requires in (pre.0, (pre.1.0, (pre.1.1.1.0, (pre.1.1.1.1, omega arith))))
+mark_step-requires-in-Restore c = let pre = c.requires in (pre.0, (pre.1.0, pre.1.1.1))
 
 pub yank_step-requires : goal.yank_step-requires
 yank_step-requires c = let pre = c.requires in (pre.0, (pre.1.0, (pre.1.1.0, pre.1.1.1.1)))

@@ -39,7 +39,7 @@ returns-then-l-f c =
 pub mark_found-requires : goal.mark_found-requires
 mark_found-requires c =
     let pre = c.requires in
-    (pre.0, (pre.1.0, (pre.1.1.1.0, (pre.1.1.1.1, (c.if-l-f.false, c.if-d-l.false)))))
+    (pre.0, (pre.1.0, (pre.1.1.1, (c.if-l-f.false, c.if-d-l.false))))
 
 pub shape_of-w : goal.shape_of-w
 shape_of-w c = c.mark_found.auto.w
