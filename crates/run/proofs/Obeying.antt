@@ -1,6 +1,6 @@
 -- What each step promises is what its line asks; a line that is refused or skipped changes no array.
 use Rattle.run_meaning.specs.declared.Why.{Why}
-use Rattle.std.specs.Prelude.{Result, Ok, Err}
+use Rattle.std.specs.Prelude.{true, false, Result, Ok, Err}
 use Prim.Native.Nat.{ℕ}
 use mathlib.Core.Path.{◌≡◌, refl, sym, subst}
 use mathlib.Core.Bool.{Bool}

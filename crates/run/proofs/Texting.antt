@@ -1,5 +1,5 @@
 -- A text line: the card put at the gap is the new card of the definitions at the flat place of the text.
-use Rattle.std.specs.Prelude.{if◌then◌else◌, Err}
+use Rattle.std.specs.Prelude.{if◌then◌else◌, Result, Ok, Err}
 use Prim.Native.Nat.{ℕ, zero, suc, ◌+◌, ◌-◌, ◌≤◌, ◌<◌}
 use native.Mathlib.Omega.{arith}
 use native.Mathlib.Numerals.{add-one}
@@ -13,8 +13,8 @@ use Rattle.words.specs.Base.{all, member}
 use Rattle.words.specs.Display.{in_chart}
 use Rattle.words.specs.Text.{trim, text_words}
 use Rattle.words_text_compress.specs.Answers.{compressing, compress_into}
-use Rattle.words_text_compress.specs.declared.Compressed.{Compressed}
-use Rattle.words_text_compress.specs.declared.Compressed.TheVariants.{Words, Outside as OutsideSet, Long as TooLong}
+use Rattle.words_text_compress.specs.declared.LineRefused.{LineRefused}
+use Rattle.words_text_compress.specs.declared.LineRefused.TheVariants.{Outside, Long}
 use Rattle.words.proofs.TextTrip.{trimmed-the-same, written-fits}
 use Rattle.words_lines.specs.Directive.{directive, line_number}
 use Rattle.words_lines.specs.declared.Line.TheVariants.{Text}
@@ -44,51 +44,51 @@ use Rattle.run_meaning.proofs.FlatLimits.{put-cards, put-short}
 use Rattle.run.proofs.Stepping.{work-words, Counted, limited-answer}
 
 -- A LINE'S WORDS
-readable-words : (l : List ℕ) → T (all in_chart l) → length l ≤ 80 → compressing l ≡ Words (length (text_words l))
+readable-words : (l : List ℕ) → T (all in_chart l) → length l ≤ 80 → compressing l ≡ Ok (length (text_words l))
 unfolding compressing
 readable-words l t le = go (all in_chart l) (lib.Dec.ltb 80 (length l)) t (lib.Dec.ltb→lt 80 (length l))
   where
-    go : (a b : Bool) → T a → (T b → 80 < length l) → (if not a then OutsideSet else if b then TooLong else Words (length (text_words l))) ≡ Words (length (text_words l))
+    go : (a b : Bool) → T a → (T b → 80 < length l) → (if not a then Err Outside else if b then Err Long else Ok (length (text_words l))) ≡ Ok (length (text_words l))
     go true true u f = absurd (omega (arith, f tt))
     go true false u f = refl
     go false b u f = absurd u
 
-words-line : (l : List ℕ) (k : ℕ) → compressing l ≡ Words k → (k ≡ length (text_words l)) × (length l ≤ 80)
+words-line : (l : List ℕ) (k : ℕ) → compressing l ≡ Ok k → (k ≡ length (text_words l)) × (length l ≤ 80)
 unfolding compressing
 words-line l k e = go (all in_chart l) (lib.Dec.ltb 80 (length l)) (lib.Dec.nltb→le 80 (length l)) e
   where
-    go : (a b : Bool) → (T (not b) → length l ≤ 80) → (if not a then OutsideSet else if b then TooLong else Words (length (text_words l))) ≡ Words k → (k ≡ length (text_words l)) × (length l ≤ 80)
+    go : (a b : Bool) → (T (not b) → length l ≤ 80) → (if not a then Err Outside else if b then Err Long else Ok (length (text_words l))) ≡ Ok k → (k ≡ length (text_words l)) × (length l ≤ 80)
     go true true f q = let z : ◌≡◌ {A = ℕ} 0 1 = cc in absurd (omega arith)
     go true false f q = (cc, f tt)
     go false b f q = let z : ◌≡◌ {A = ℕ} 0 1 = cc in absurd (omega arith)
 
-pub words-few : (l : List ℕ) (k : ℕ) → compressing l ≡ Words k → k ≤ 16
+pub words-few : (l : List ℕ) (k : ℕ) → compressing l ≡ Ok k → k ≤ 16
 words-few l k e = let q = words-line l k e in omega (arith, q.0, written-fits l q.1)
 
 -- the first k words of the space are then the line's
-pub words-first : (l space t : List ℕ) (k : ℕ) → compressing l ≡ Words k → t ≡ compress_into l space → text_words (trim l) ≡ take k t
+pub words-first : (l space t : List ℕ) (k : ℕ) → compressing l ≡ Ok k → t ≡ compress_into l space → text_words (trim l) ≡ take k t
 unfolding compress_into
 words-first l space t k e f =
     let q = words-line l k e in
     trimmed-the-same l
     ∙ sym (take_at (text_words l) (drop k space) k (sym q.0))
-    ∙ sym (ap (take k) (f ∙ ap (λ (c : Compressed). elim c [ Words n ↦ text_words l ++ drop n space | OutsideSet ↦ space | TooLong ↦ space ]) e))
+    ∙ sym (ap (take k) (f ∙ ap (λ (c : Result ℕ LineRefused). elim c [ Ok n ↦ text_words l ++ drop n space | Err r ↦ space ]) e))
 
 -- and it has as many words as before
-pub words-space : (l space t : List ℕ) (k : ℕ) → compressing l ≡ Words k → length space ≡ 16 → t ≡ compress_into l space → length t ≡ 16
+pub words-space : (l space t : List ℕ) (k : ℕ) → compressing l ≡ Ok k → length space ≡ 16 → t ≡ compress_into l space → length t ≡ 16
 unfolding compress_into
 words-space l space t k e n f =
     let q = words-line l k e in
     let le : k ≤ 16 = words-few l k e in
-    let g : length t ≡ length (text_words l ++ drop k space) = ap length (f ∙ ap (λ (c : Compressed). elim c [ Words m ↦ text_words l ++ drop m space | OutsideSet ↦ space | TooLong ↦ space ]) e) in
+    let g : length t ≡ length (text_words l ++ drop k space) = ap length (f ∙ ap (λ (c : Result ℕ LineRefused). elim c [ Ok m ↦ text_words l ++ drop m space | Err r ↦ space ]) e) in
     omega (arith, length-append (text_words l) (drop k space), lib.ListN.length-drop k space, q.0)
 
-pub line-put : (w : List ℕ) (g : Gap) (line space t : List ℕ) (k seq n : ℕ) (v : List ℕ) (h : Gap) → compressing line ≡ Words k → t ≡ compress_into line space
+pub line-put : (w : List ℕ) (g : Gap) (line space t : List ℕ) (k seq n : ℕ) (v : List ℕ) (h : Gap) → compressing line ≡ Ok k → t ≡ compress_into line space
     → PutsCard w g (take k t) seq n v h → PutsLine w g line seq n v h
 line-put w g line space t k seq n v h e f p yk cs1 cs2 a b work off pos first =
     p yk cs1 cs2 (trim line) (words-first line space t k e f) work off pos first
 
-pub line-not : (w : List ℕ) (g : Gap) (line : List ℕ) (c : Compressed) (seq n : ℕ) (v : List ℕ) (h : Gap) → compressing line ≡ c → ((k : ℕ) → c ≡ Words k → ⊥) → PutsLine w g line seq n v h
+pub line-not : (w : List ℕ) (g : Gap) (line : List ℕ) (c : Result ℕ LineRefused) (seq n : ℕ) (v : List ℕ) (h : Gap) → compressing line ≡ c → ((k : ℕ) → c ≡ Ok k → ⊥) → PutsLine w g line seq n v h
 line-not w g line c seq n v h e f yk cs1 cs2 a b work off pos first = absurd (f (length (text_words line)) (sym e ∙ readable-words line a b))
 
 -- THE PLACE OF TEXT

@@ -1,5 +1,5 @@
 -- The names of a YANK line, one by one: 26 and 27 by the directory and the deck list, over the whole line.
-use Rattle.std.specs.Prelude.{Result, Err}
+use Rattle.std.specs.Prelude.{Some, None, Result, Err}
 use Prim.Native.Nat.{ℕ, ◌+◌}
 use mathlib.Core.Path.{◌≡◌, refl, sym, ap, ap₂, ◌∙◌, subst}
 use mathlib.Core.Bool.{Bool, true, false, ◌||◌, not}
@@ -10,7 +10,7 @@ use Rattle.words.specs.Base.{any, member}
 use Rattle.words_lines.specs.Directive.{directive, field, yank_names}
 use Rattle.words_lines.specs.Reading.{next_name}
 use Rattle.words_lines.specs.declared.Line.TheVariants.{Yank as YankLine}
-use Rattle.words_lines.specs.declared.NameStep.TheVariants.{Name, End}
+use Rattle.words_lines.specs.declared.NameAt.{NameAt}
 use Rattle.words_lines.proofs.FieldNames.{names_from, names_more, names-none, yank-names}
 use Rattle.library.specs.Library.{Library, reserved, entry_of}
 use Rattle.run_meaning.specs.Step.{State, Step, refused, refuse, limited, is_set, is_unknown, is_no_set, after_yank, obey, step}
@@ -49,13 +49,13 @@ module _ (q : ℕ → Bool) (f : List ℕ) where
   names-start = refl
 
   module _ (at : ℕ) where
-    pub names-here : (w n : ℕ) → next_name f at ≡ Name w n → q w ≡ true → any q (names_from f at) ≡ true
-    names-here w n e h = ap (any q) (names_more f at w n e) ∙ ap (λ (b : Bool). b || any q (names_from f n)) h
+    pub names-here : (n : NameAt) → next_name f at ≡ Some n → q n.word ≡ true → any q (names_from f at) ≡ true
+    names-here n e h = ap (any q) (names_more f at n e) ∙ ap (λ (b : Bool). b || any q (names_from f n.next)) h
 
-    pub names-on : (w n : ℕ) → next_name f at ≡ Name w n → q w ≡ false → any q (names_from f at) ≡ any q (names_from f n)
-    names-on w n e h = ap (any q) (names_more f at w n e) ∙ ap (λ (b : Bool). b || any q (names_from f n)) h
+    pub names-on : (n : NameAt) → next_name f at ≡ Some n → q n.word ≡ false → any q (names_from f at) ≡ any q (names_from f n.next)
+    names-on n e h = ap (any q) (names_more f at n e) ∙ ap (λ (b : Bool). b || any q (names_from f n.next)) h
 
-    pub names-over : next_name f at ≡ End → any q (names_from f at) ≡ false
+    pub names-over : next_name f at ≡ None → any q (names_from f at) ≡ false
     names-over e = ap (any q) (names-none f at e)
 
 -- A YANK LINE

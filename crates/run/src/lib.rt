@@ -23,16 +23,13 @@ ghost use Rattle.std.specs.Prelude.{◌≡◌, length};
 ghost use Rattle.run_meaning.specs.Run.{running, ran, run_into};
 
 use crate::runs::run_stream;
-use library::Checked;
-pub use run_meaning::{Ran, Why, ran_number, ran_value, why_number};
+pub use run_meaning::{RunRefused, Why, ran_number, ran_value, why_number};
 
 // The correction run: the new library is written to the space where the old one and the stream are accepted.
-pub fn run(old: &[u64], stream: &[u8], space: &mut [u64]) -> Ran
+pub fn run(old: &[u64], stream: &[u8], space: &mut [u64]) -> Result<usize, RunRefused>
     ensures answer { result ≡ ran (running old.now stream.now (length space.old)) }
     ensures space_after { space.new ≡ run_into (running old.now stream.now (length space.old)) space.old }
 {
-    match library_check::check(old) {
-        Checked::Refused(f, p) => Ran::Library(f, p),
-        Checked::Sound => run_stream(old, stream, space),
-    }
+    library_check::check(old)?;
+    run_stream(old, stream, space)
 }

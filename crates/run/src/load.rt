@@ -54,9 +54,9 @@ fn load_words(old: &[u64], n: usize, k: usize, w: &mut [u64], dir: &mut [u64], n
 {
     let at = 2 + n;
     let end = at + k;
-    words_lists::put_words(&old[2..at], dir, 0);
-    words_lists::put_words(&old[at..end], names, 0);
-    words_lists::put_words(&old[end..], w, 0);
+    words_lists::put(&old[2..at], dir, 0);
+    words_lists::put(&old[at..end], names, 0);
+    words_lists::put(&old[end..], w, 0);
 }
 
 // The library in work at the start of a run: the gap is behind the cards, no unit has begun, and text goes nowhere.

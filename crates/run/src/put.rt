@@ -21,7 +21,7 @@ pub(crate) fn put_card(w: &mut [u64], g: Gap, text: &[u64], k: usize, seq: u64, 
         };
     }
     w[lo] = LAST + ACTIVE + k as u64 * UPPER + seq * FIELD + ACTIVATING + n;
-    words_lists::put_words(&text[..k], w, lo + 1);
+    words_lists::put(&text[..k], w, lo + 1);
     Gap {
         lo: lo + 1 + k,
         hi: hi,

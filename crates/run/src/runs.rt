@@ -5,15 +5,15 @@ ghost use Rattle.run.specs.Written.{RunsLines, RunsStream};
 
 use crate::carry::finish;
 use crate::load::load;
-use crate::streams::{Ended, obey_stream};
+use crate::streams::obey_stream;
 use crate::yanks::resettle;
-use run_meaning::{Ran, Why};
+use run_meaning::{RunRefused, Why};
 
 // The longest stream, in bytes.
 const STREAM: usize = 262144;
 
 // In arrays of its own: the cards' words, the directory, the deck list, and the flags of the decks' numbers and of the yanked ones.
-fn run_lines(old: &[u64], stream: &[u8], space: &mut [u64]) -> Ran
+fn run_lines(old: &[u64], stream: &[u8], space: &mut [u64]) -> Result<usize, RunRefused>
     requires { Readable old.now × (length stream.now ≤ 262144) }
     ensures { RunsLines old.now stream.now space.old space.new result }
 {
@@ -24,21 +24,18 @@ fn run_lines(old: &[u64], stream: &[u8], space: &mut [u64]) -> Ran
     let mut flags = [0u64; 1025];
     let d = load(old, &mut words, &mut dir, &mut names, &mut decks);
     resettle(&mut words, &dir, &mut flags, d);
-    let r = obey_stream(
+    let e = obey_stream(
         &mut words, &mut dir, &mut names, &mut decks, &mut flags, d, stream,
-    );
-    match r {
-        Ended::Ended(e) => finish(&words, &dir, &names, e, space),
-        Ended::Stopped(y, n) => Ran::Refused(y, n),
-    }
+    )?;
+    finish(&words, &dir, &names, e, space)
 }
 
-pub(crate) fn run_stream(old: &[u64], stream: &[u8], space: &mut [u64]) -> Ran
+pub(crate) fn run_stream(old: &[u64], stream: &[u8], space: &mut [u64]) -> Result<usize, RunRefused>
     requires { Readable old.now }
     ensures { RunsStream old.now stream.now space.old space.new result }
 {
     if STREAM < stream.len() {
-        return Ran::Refused(Why::Stream, 0);
+        return Err(RunRefused::Stream(Why::Stream, 0));
     }
     run_lines(old, stream, space)
 }

@@ -5,15 +5,9 @@ ghost use Rattle.run.specs.Streamed.{in_arrays, SaneEnd, ObeysStream};
 
 use crate::desk::{Desk};
 use crate::obey::obey_line;
-use run_meaning::Why;
+use run_meaning::RunRefused;
 
-// All lines obeyed; or why one is refused, and its number.
-#[derive(Clone, Copy)]
-pub(crate) enum Ended {
-    Ended(Desk),
-    Stopped(Why, usize),
-}
-
+// The state after all lines; or why one is refused, and its number.
 pub(crate) fn obey_stream(
     w: &mut [u64],
     dir: &mut [u64],
@@ -22,7 +16,7 @@ pub(crate) fn obey_stream(
     flags: &mut [u64],
     first: Desk,
     stream: &[u8],
-) -> Ended
+) -> Result<Desk, RunRefused>
     requires { Sane w.old first × ((length dir.old ≡ 1024) × ((255 < length names.old) × ((1024 < length decks.old) × ((1024 < length flags.old) × (length stream.now ≤ 262144))))) }
     ensures sane_end { SaneEnd w.new result }
     ensures obeys_stream { ObeysStream (in_arrays w.old dir.old names.old decks.old flags.old) first stream.now (in_arrays w.new dir.new names.new decks.new flags.new) result }
@@ -33,17 +27,10 @@ pub(crate) fn obey_stream(
     while at < stream.len() {
         let line = words_lines::line_at(stream, at);
         let next = run_meaning::line_after(at, line);
-        let r = obey_line(w, dir, names, decks, flags, d, line);
-        match r {
-            Err(y) => {
-                return Ended::Stopped(y, n);
-            }
-            Ok(e) => {
-                d = e;
-                at = next;
-                n += 1;
-            }
-        }
+        d = obey_line(w, dir, names, decks, flags, d, line)
+            .map_err(|y| RunRefused::Stream(y, n))?;
+        at = next;
+        n += 1;
     }
-    Ended::Ended(d)
+    Ok(d)
 }

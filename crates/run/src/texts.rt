@@ -8,7 +8,6 @@ use crate::desk::{Desk, TextAt, limited};
 use crate::gap::Gap;
 use crate::put::put_card;
 use run_meaning::Why;
-use words_text_compress::Compressed;
 
 // A new card at the gap with the line's text. Where its words do not fit, lo passes hi.
 pub(crate) fn put_line(w: &mut [u64], g: Gap, line: &[u8], seq: u64, n: u64) -> Gap
@@ -17,11 +16,9 @@ pub(crate) fn put_line(w: &mut [u64], g: Gap, line: &[u8], seq: u64, n: u64) -> 
     ensures puts_line { PutsLine w.old g line.now seq n w.new result }
 {
     let mut text = [0u64; 16];
-    let c = words_text_compress::compress(line, &mut text);
-    match c {
-        Compressed::Words(k) => put_card(w, g, &text, k, seq, n),
-        Compressed::Outside => g,
-        Compressed::Long => g,
+    match words_text_compress::compress(line, &mut text) {
+        Ok(k) => put_card(w, g, &text, k, seq, n),
+        Err(_) => g,
     }
 }
 
