@@ -1,18 +1,16 @@
 -- Numbers as bytes, highest first and lowest first: what is written is read again.
---   lists below a bound   Below, all-below, below_all, below-known, below_at, below-take, below-drop, below-append
+--   lists below a bound   Below, all-below, below_all, below-known, below-take, below-drop, below-append
 --   highest first         bytes_below, number-join, number-so, number-div, number-bytes, bytes-number
 --   lowest first          low-number, low-bytes, low-eight
---   the other way round   turned-number
---   eight at a place      eight-at
 use mathlib.Core.Path.{◌≡◌, refl, ap, ◌∙◌}
 use mathlib.Core.Bool.{Bool, true, false, ◌&&◌}
 use mathlib.Core.List.{List, [], ◌∷◌, ◌++◌}
 use Prim.Native.Nat.{ℕ, zero, suc, ◌+◌, ◌*◌, ◌/◌, ◌%◌, ◌^◌, ◌≤◌, ◌<◌}
-use native.Mathlib.Nat.{add-zero, pow-suc, div-div-eq-div-mul, div-one, div-lt_iff_lt-mul}
+use native.Mathlib.Nat.{pow-suc, div-div-eq-div-mul, div-one, div-lt_iff_lt-mul}
 use native.Mathlib.Omega.{arith}
 use lib.Dec.{ltb}
-use lib.ListN.{length, get_or, take, drop, length-drop}
-use lib.Seq.{drop-cons, get_or-drop, length-take-le}
+use lib.ListN.{length, get_or, take, drop}
+use lib.Seq.{length-take-le}
 use borrow.Author.Tests.{ltb-true, lt-ltb}
 use Rattle.words.specs.Base.{all}
 use Rattle.words_packing.specs.Pack.{bytes_of, number_of, low_bytes, low_number}
@@ -39,11 +37,6 @@ below_all n (x ∷ xs) b = rw (lt-ltb x n b.0) (below_all n xs b.1)
 pub below-known : (n : ℕ) (xs : List ℕ) → ((i : ℕ) → get_or xs i 0 < n) → Below n xs
 below-known n [] h = tt
 below-known n (x ∷ xs) h = (h 0, below-known n xs (λ i. h (suc i)))
-
-pub below_at : (n : ℕ) (xs : List ℕ) (i : ℕ) → Below n xs → i < length xs → get_or xs i 0 < n
-below_at n [] i b h = absurd (omega arith)
-below_at n (x ∷ xs) zero b h = b.0
-below_at n (x ∷ xs) (suc i) b h = below_at n xs i b.1 (omega arith)
 
 pub below-take : (n k : ℕ) (xs : List ℕ) → Below n xs → Below n (take k xs)
 below-take n zero xs b = tt
@@ -111,29 +104,3 @@ pub low-eight : (bs : List ℕ) → Below 256 bs → 8 ≤ length bs → low_byt
 low-eight bs h n =
     let l : length (take 8 bs) ≡ 8 = length-take-le 8 bs n in
     rw l at (low-bytes (take 8 bs) (below-take 256 8 bs h))
-
--- THE OTHER WAY ROUND: the byte that is highest stands last
-low-last : (n w : ℕ) → low_bytes (suc n) w ≡ low_bytes n w ++ (w / 256 ^ n % 256 ∷ [])
-low-last zero w = rw div-one
-low-last (suc n) w =
-    let e : w / 256 / 256 ^ n ≡ w / 256 ^ suc n = rw (div-div-eq-div-mul w 256 (256 ^ n), pow-suc 256 n) (ap (λ (m : ℕ). w / m) (omega arith)) in
-    rw (← e) (ap {B = List ℕ} (λ r. w % 256 ∷ r) (low-last n (w / 256)))
-
-pub turned-number : (n w : ℕ) → low_number (bytes_of n w) ≡ number_of 0 (low_bytes n w)
-turned-number zero w = refl
-turned-number (suc n) w = rw (low-last n w, number-join 0 (low_bytes n w) (w / 256 ^ n % 256 ∷ []), ← turned-number n w) (omega arith)
-
--- EIGHT AT A PLACE
-abbrev gets : ℕ → ℕ → List ℕ → List ℕ
-gets zero i xs = []
-gets (suc n) i xs = get_or xs i 0 ∷ gets n (suc i) xs
-
-take-gets : (n i : ℕ) (xs : List ℕ) → i + n ≤ length xs → take n (drop i xs) ≡ gets n i xs
-take-gets zero i xs h = refl
-take-gets (suc n) i xs h =
-    rw (drop-cons xs i 0 (omega arith)) (ap {B = List ℕ} (λ r. get_or xs i 0 ∷ r) (take-gets n (suc i) xs (omega arith)))
-
-pub eight-at : (bs : List ℕ) (at : ℕ) → at + 8 ≤ length bs
-    → take 8 (drop at bs)
-    ≡ get_or bs at 0 ∷ get_or bs (at + 1) 0 ∷ get_or bs (at + 2) 0 ∷ get_or bs (at + 3) 0 ∷ get_or bs (at + 4) 0 ∷ get_or bs (at + 5) 0 ∷ get_or bs (at + 6) 0 ∷ get_or bs (at + 7) 0 ∷ []
-eight-at bs at h = take-gets 8 0 (drop at bs) (rw length-drop (omega arith)) ∙ simp (get_or-drop, add-zero)

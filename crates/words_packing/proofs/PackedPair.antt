@@ -1,10 +1,8 @@
 -- Each turn of packing writes what the next two words say, and the rest is packed alike.
 --   two words             number-eight, pair-bytes, put-pair
---   packing               pack-more, pack-last, pack-end, two_at, one_at
+--   packing               pack-more, two_at
 --   words as eight bytes  eights-more
---   every word tested     all_more, all-fails
 use mathlib.Core.Path.{◌≡◌, refl, sym, ap, ◌∙◌}
-use mathlib.Core.Bool.{false}
 use mathlib.Core.List.{List, [], ◌∷◌, ◌++◌, append-nil}
 use Prim.Native.Nat.{ℕ, suc, ◌+◌, ◌*◌, ◌/◌, ◌%◌, ◌^◌, ◌≤◌, ◌<◌}
 use native.Mathlib.Nat.{div-eq_of_lt}
@@ -12,12 +10,9 @@ use native.Mathlib.Numerals.{add-one, add-two}
 use native.Mathlib.Omega.{arith}
 use lib.ListN.{length, get_or, take, drop, length-drop, drop_of_length-le}
 use lib.Seq.{length-take-le, drop-append-add, drop-cons}
-use borrow.Author.Tests.{lt-ltb, le-ltb}
-use Rattle.words.specs.Base.{all}
 use Rattle.words_packing.specs.Pack.{bytes_of, number_of, low_number, packed, words_from, words_of_eights}
-use Rattle.words.specs.Base.{is_word}
 use Rattle.words_packing.proofs.NumberBytes.{Below, below-append, bytes_below, number-join, number-so, number-bytes, bytes-number}
-use Rattle.words_packing.proofs.WrittenSoFar.{Filling, fill_more, fill_end}
+use Rattle.words_packing.proofs.WrittenSoFar.{Filling, fill_more}
 
 -- TWO WORDS: the high eight bytes and the low eight of the 15 share the middle one
 pub number-eight : (w : ℕ) → w < 2 ^ 64 → number_of 0 (bytes_of 8 w) ≡ w
@@ -59,29 +54,12 @@ module _ {whole space new : List ℕ} {at : ℕ} where
       → Filling whole (packed r) space (take at new ++ (bytes_of 15 (a * 2 ^ 60 + b) ++ drop (at + 15) new)) (at + 15)
   pack-more ws a b r f e h = fill_more (bytes_of 15 (a * 2 ^ 60 + b)) 15 (rw e at f) refl h
 
-  pub pack-last : (ws : List ℕ) (a : ℕ) → Filling whole (packed ws) space new at → ws ≡ a ∷ [] → at + 8 ≤ length new
-      → take at new ++ (bytes_of 8 (a * 16) ++ drop (at + 8) new) ≡ whole ++ drop (at + 8) space
-  pack-last ws a f e h = fill_end (fill_more (bytes_of 8 (a * 16)) 8 (rw e at f) refl h)
-
-  pub pack-end : (ws : List ℕ) → Filling whole (packed ws) space new at → ws ≡ [] → new ≡ whole ++ drop at space
-  pack-end ws f e = fill_end (rw e at f)
-
 -- the next two words of a slice
 pub two_at : (ws : List ℕ) (i : ℕ) → i + 2 ≤ length ws → drop i ws ≡ get_or ws i 0 ∷ get_or ws (i + 1) 0 ∷ drop (i + 2) ws
 two_at ws i h = rw (add-one, add-two, drop-cons ws i 0 (omega arith), drop-cons ws (suc i) 0 (omega arith))
-
-pub one_at : (ws : List ℕ) (i : ℕ) → i + 1 ≡ length ws → drop i ws ≡ get_or ws i 0 ∷ []
-one_at ws i h = drop-cons ws i 0 (omega arith) ∙ ap {B = List ℕ} (λ r. get_or ws i 0 ∷ r) (drop_of_length-le ws {i = suc i} (omega arith))
 
 -- WORDS AS EIGHT BYTES: the next of them
 pub eights-more : (xs : List ℕ) → 8 ≤ length xs → words_of_eights xs ≡ low_number (take 8 xs) ∷ words_of_eights (drop 8 xs)
 eights-more xs h =
     let k : length xs / 8 ≡ suc (length (drop 8 xs) / 8) = rw length-drop (omega arith) in
     ap (λ (n : ℕ). words_from n xs) k
-
--- THE TEST OF EVERY WORD
-pub all_more : (w : ℕ) (r ws : List ℕ) → ws ≡ w ∷ r → w < 2 ^ 60 → all is_word ws ≡ all is_word r
-all_more w r ws e h = rw (e, lt-ltb w (2 ^ 60) h)
-
-pub all-fails : (w : ℕ) (r ws : List ℕ) → ws ≡ w ∷ r → 2 ^ 60 ≤ w → all is_word ws ≡ false
-all-fails w r ws e h = rw (e, le-ltb w (2 ^ 60) h)

@@ -1,5 +1,5 @@
 -- Each turn of unpacking writes what the next 15 bytes say, and the rest is unpacked alike.
---   unpacking             unpacked-pair, unpacked-last, unpacked-none, pair-at, left_over
+--   unpacking             unpacked-pair, unpacked-last, pair-at, left_over
 use mathlib.Core.Path.{◌≡◌, refl, sym, ap, ◌∙◌}
 use mathlib.Core.Bool.{Bool, true, false, ◌||◌}
 use mathlib.Core.List.{List, [], ◌∷◌}
@@ -44,10 +44,6 @@ unpacked-last (x ∷ xs) h =
     let k : length (x ∷ xs) / 15 ≡ 0 = omega arith in
     ap (λ (n : ℕ). unpacked_pairs n (x ∷ xs)) k
     ∙ ap {B = List ℕ} (λ (bs : List ℕ). number_of 0 bs / 16 ∷ []) (sym (take_all 8 (x ∷ xs) (omega arith)))
-
-pub unpacked-none : (xs : List ℕ) → length xs ≡ 0 → unpacked xs ≡ []
-unpacked-none [] h = refl
-unpacked-none (x ∷ xs) h = absurd (omega arith)
 
 pub pair-at : (bs : List ℕ) (at : ℕ) → Below 256 bs → at + 15 ≤ length bs
     → unpacked (drop at bs) ≡ number_of 0 (take 8 (drop at bs)) / 16 ∷ number_of 0 (take 8 (drop (at + 7) bs)) % 2 ^ 60 ∷ unpacked (drop (at + 15) bs)

@@ -1,5 +1,5 @@
 -- What is written of a space so far and what is still to come make the whole, and the rest is as it was.
---   Filling, fill_start, fill_more, fill-set, fill-two, fill_end
+--   Filling, fill_more, fill-set, fill-two, fill_end
 use mathlib.Core.Path.{◌≡◌, refl, sym, ap, ◌∙◌}
 use mathlib.Core.List.{List, [], ◌∷◌, ◌++◌, append_assoc, append-nil}
 use Prim.Native.Nat.{ℕ, ◌+◌, ◌≤◌, ◌<◌}
@@ -13,9 +13,6 @@ pub record Filling (whole rest space new : List ℕ) (at : ℕ) : Type 0 where
   pub done : take at new ++ rest ≡ whole
   pub kept : drop at new ≡ drop at space
   pub long : length new ≡ length space
-
-pub fill_start : (whole space : List ℕ) → Filling whole whole space space 0
-fill_start whole space = record { done = refl; kept = refl; long = refl }
 
 module _ {whole space new : List ℕ} {at : ℕ} where
   -- n more at once

@@ -7,26 +7,21 @@ use crate::eights::{EIGHT, high};
 use crate::packer::{LIMIT, NIBBLE, PAIR, SECOND};
 use crate::stands::Stands;
 
-// What unpacking answers where there is room for so many words.
+// What unpacking answers where there is room for so many words; 50 is tested first, then 53, then 51.
+#[tactic(auto, unfolding(crate::specs::Pack::unpacking))]
 fn unpackable(bytes: &[u8], room: usize) -> Result<usize, PackingRefused>
     ensures { result ≡ unpacking bytes.now room }
 {
     let n = bytes.len();
     let over = n % PAIR;
-    let size = n * 2 / PAIR;
-    if over == 0 {
-        if room < size {
-            return Err(PackingRefused::Space);
-        }
-        return Ok(size);
-    }
-    if over != EIGHT {
+    if over != 0 && over != EIGHT {
         return Err(PackingRefused::Length);
     }
+    let size = n * 2 / PAIR;
     if room < size {
         return Err(PackingRefused::Space);
     }
-    if bytes[n - 1] % 16 != 0 {
+    if over == EIGHT && bytes[n - 1] % 16 != 0 {
         return Err(PackingRefused::Tail);
     }
     Ok(size)
@@ -50,7 +45,7 @@ fn write_unpacked<E: Stands>(bytes: &[u8], out: &mut [E])
     }
 }
 
-// Unpacks words into a space, however they stand in it; 50 is tested first, then 53, then 51.
+// Unpacks words into a space, however they stand in it.
 fn unpack_words<E: Stands>(bytes: &[u8], out: &mut [E]) -> Result<usize, PackingRefused>
     ensures value { result ≡ unpacking bytes.now (length (E.words out.old)) }
     ensures out_after { E.words out.new ≡ unpack_into bytes.now (E.words out.old) }
