@@ -4,13 +4,13 @@ pub mod NumberBytes
 pub mod EightsWords
 -- What is written of a space so far and what is still to come make the whole, and the rest is as it was.
 pub mod WrittenSoFar
--- What packing answers and what the space then holds, one law for each way out of the code.
+-- What unpacking answers of bytes that it accepts, and how many words stand in eight bytes each.
 pub mod PackAnswer
 -- Each turn of packing writes what the next two words say, and the rest is packed alike.
 pub mod PackedPair
 -- Packing loses nothing: 15 bytes are one number of 120 bits, and its two halves are the two words.
 pub mod PackTrip
--- What the space holds after unpacking, and what is answered for words of eight bytes.
+-- What the space holds after unpacking to words of eight bytes.
 pub mod UnpackAnswer
 -- Each turn of unpacking writes what the next 15 bytes say, and the rest is unpacked alike.
 pub mod UnpackedPair

@@ -1,77 +1,29 @@
--- What packing answers and what the space then holds, one law for each way out of the code.
---   packing               Leaves, pack-wide, pack-short, pack-done
---   words as eight bytes  eights-odd, eights-even, eights-count
---   unpacking             answer-length, answer-whole, answer-short, answer-tail, answer-last, Accepted, accepted
+-- What unpacking answers of bytes that it accepts, and how many words stand in eight bytes each.
+--   words as eight bytes  eights_count
+--   unpacking             answer-whole, answer-last, Accepted, accepted
 use Rattle.std.specs.Prelude.{Result, Ok, Err, if◌then◌else◌}
 use mathlib.Core.Path.{◌≡◌, refl, ap}
 use mathlib.Core.Bool.{Bool, true, false, not}
-use mathlib.Core.List.{List, ◌++◌}
-use Prim.Native.Nat.{ℕ, zero, suc, ◌-◌, ◌%◌, ◌≤◌, ◌<◌}
+use mathlib.Core.List.{List}
+use Prim.Native.Nat.{ℕ, zero, suc, ◌-◌, ◌%◌, ◌≤◌}
 use native.Mathlib.Omega.{arith}
 use lib.Dec.{ltb}
 use lib.ListN.{length, get_or, drop}
-use borrow.Author.Tests.{ltb-false, lt-ltb, le-ltb, le-leb, lt-leb, eq-eqb, ne_eqb}
-use Rattle.words.specs.Base.{all}
-use Rattle.words_packing.specs.Pack.{packed, packed_length, packing, pack_into, space_after, is_packed_length, has_tail, unpacked_length, unpacking, words_from, words_of_eights, packing_eights, pack_eights_into}
-use Rattle.words.specs.Base.{is_word}
+use borrow.Author.Tests.{ltb-false, le-ltb}
+use Rattle.words_packing.specs.Pack.{is_packed_length, has_tail, unpacked_length, unpacking, words_from}
 use Rattle.words_packing.specs.declared.PackingRefused.{PackingRefused}
 use Rattle.words_packing.specs.declared.PackingRefused.TheVariants.{Length, Tail, Space}
 
--- PACKING: the answer, and what the space then holds
-abbrev pub Leaves : List ℕ → List ℕ → Result ℕ PackingRefused → List ℕ → Type 0
-Leaves ws space p new = (p ≡ packing ws (length space)) × (new ≡ pack_into ws space)
-
-module _ (ws space : List ℕ) where
-  pub pack-wide : all is_word ws ≡ false → Leaves ws space (Err Space) space
-  unfolding packing space_after
-  pack-wide h = (rw h, rw h)
-
-  pub pack-short : length space < packed_length (length ws) → Leaves ws space (Err Space) space
-  unfolding packing space_after
-  pack-short h = ways (all is_word ws) refl
-    where
-      ways : (t : Bool) → all is_word ws ≡ t → Leaves ws space (Err Space) space
-      ways true e = (rw (e, lt-leb (packed_length (length ws)) (length space) h), rw (e, lt-leb (packed_length (length ws)) (length space) h))
-      ways false e = (rw e, rw e)
-
-  pub pack-done : all is_word ws ≡ true → packed_length (length ws) ≤ length space
-      → Leaves ws space (Ok (packed_length (length ws))) (packed ws ++ drop (packed_length (length ws)) space)
-  unfolding packing space_after
-  pack-done t h = (rw (t, le-leb (packed_length (length ws)) (length space) h), rw (t, le-leb (packed_length (length ws)) (length space) h))
-
--- WORDS AS EIGHT BYTES
-module _ (bs space : List ℕ) where
-  pub eights-odd : (length bs % 8 ≡ 0 → ⊥) → (Err Length ≡ packing_eights bs (length space)) × (space ≡ pack_eights_into bs space)
-  unfolding packing_eights space_after
-  eights-odd h = (rw (ne_eqb (length bs % 8) 0 h), rw (ne_eqb (length bs % 8) 0 h))
-
-  -- where the length is right it is the packing of the words
-  pub eights-even : {p : Result ℕ PackingRefused} {new : List ℕ} → length bs % 8 ≡ 0 → Leaves (words_of_eights bs) space p new
-      → (p ≡ packing_eights bs (length space)) × (new ≡ pack_eights_into bs space)
-  unfolding packing_eights
-  eights-even h e = (rw (eq-eqb (length bs % 8) 0 h) e.0, rw (eq-eqb (length bs % 8) 0 h) e.1)
-
-pub eights-count : (k : ℕ) (bs : List ℕ) → length (words_from k bs) ≡ k
-eights-count zero bs = refl
-eights-count (suc k) bs = ap suc (eights-count k (drop 8 bs))
+-- as many words as eighths
+pub eights_count : (k : ℕ) (bs : List ℕ) → length (words_from k bs) ≡ k
+eights_count zero bs = refl
+eights_count (suc k) bs = ap suc (eights_count k (drop 8 bs))
 
 -- UNPACKING
 module _ (bs : List ℕ) (room : ℕ) where
-  pub answer-length : (length bs % 15 ≡ 0 → ⊥) → (length bs % 15 ≡ 8 → ⊥) → Err Length ≡ unpacking bs room
-  unfolding unpacking
-  answer-length h g = rw (ne_eqb (length bs % 15) 0 h, ne_eqb (length bs % 15) 8 g)
-
   pub answer-whole : length bs % 15 ≡ 0 → unpacked_length (length bs) ≤ room → Ok (unpacked_length (length bs)) ≡ unpacking bs room
   unfolding unpacking
   answer-whole h g = rw (h, le-ltb room (unpacked_length (length bs)) g)
-
-  pub answer-short : is_packed_length (length bs) ≡ true → room < unpacked_length (length bs) → Err Space ≡ unpacking bs room
-  unfolding unpacking
-  answer-short h g = rw (h, lt-ltb room (unpacked_length (length bs)) g)
-
-  pub answer-tail : length bs % 15 ≡ 8 → unpacked_length (length bs) ≤ room → (get_or bs (length bs - 1) 0 % 16 ≡ 0 → ⊥) → Err Tail ≡ unpacking bs room
-  unfolding unpacking
-  answer-tail h g t = rw (h, le-ltb room (unpacked_length (length bs)) g, ne_eqb (get_or bs (length bs - 1) 0 % 16) 0 t)
 
   pub answer-last : length bs % 15 ≡ 8 → unpacked_length (length bs) ≤ room → get_or bs (length bs - 1) 0 % 16 ≡ 0 → Ok (unpacked_length (length bs)) ≡ unpacking bs room
   unfolding unpacking

@@ -63,6 +63,7 @@ fn write_packed<E: Stands>(words: &[E], out: &mut [u8])
 }
 
 // Packs the words of a space, however they stand in it.
+#[tactic(auto, unfolding(crate::specs::Pack::packing, crate::specs::Pack::space_after))]
 fn pack_words<E: Stands>(words: &[E], out: &mut [u8]) -> Result<usize, PackingRefused>
     ensures value { result ≡ packing (E.words words.now) (length out.old) }
     ensures out_after { out.new ≡ pack_into (E.words words.now) out.old }
@@ -87,6 +88,7 @@ pub fn pack(words: &[u64], out: &mut [u8]) -> Result<usize, PackingRefused>
 }
 
 // The same for C, where a word is eight bytes, the lowest ahead.
+#[tactic(auto, using(crate::proofs::PackAnswer::eights_count), unfolding(crate::specs::Pack::packing_eights, crate::specs::Pack::space_after))]
 pub fn pack_bytes(words: &[u8], out: &mut [u8]) -> Result<usize, PackingRefused>
     ensures value { result ≡ packing_eights words.now (length out.old) }
     ensures out_after { out.new ≡ pack_eights_into words.now out.old }

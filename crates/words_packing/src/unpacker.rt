@@ -46,6 +46,7 @@ fn write_unpacked<E: Stands>(bytes: &[u8], out: &mut [E])
 }
 
 // Unpacks words into a space, however they stand in it.
+#[tactic(auto, unfolding(crate::specs::Pack::unpacking, crate::specs::Pack::space_after))]
 fn unpack_words<E: Stands>(bytes: &[u8], out: &mut [E]) -> Result<usize, PackingRefused>
     ensures value { result ≡ unpacking bytes.now (length (E.words out.old)) }
     ensures out_after { E.words out.new ≡ unpack_into bytes.now (E.words out.old) }
@@ -64,6 +65,7 @@ pub fn unpack(bytes: &[u8], out: &mut [u64]) -> Result<usize, PackingRefused>
 }
 
 // The same for C, where a word is eight bytes, the lowest ahead.
+#[tactic(auto, unfolding(crate::specs::Pack::unpacking_eights, crate::specs::Pack::space_after))]
 pub fn unpack_bytes(bytes: &[u8], out: &mut [u8]) -> Result<usize, PackingRefused>
     ensures value { result ≡ unpacking_eights bytes.now (length out.old) }
     ensures out_after { out.new ≡ unpack_eights_into bytes.now out.old }

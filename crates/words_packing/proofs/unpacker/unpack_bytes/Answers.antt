@@ -6,18 +6,15 @@ use lib.ListN.{length}
 use borrow.Author.Rules.{rules}
 use Rattle.words_packing.specs.Pack.{times_eight}
 use Rattle.words_packing.proofs.NumberBytes.{below-known}
-use Rattle.words_packing.proofs.PackAnswer.{accepted, eights-count}
-use Rattle.words_packing.proofs.UnpackAnswer.{unpack-eights-odd, unpack-eights-even, unpack-eights-into}
+use Rattle.words_packing.proofs.PackAnswer.{accepted, eights_count}
+use Rattle.words_packing.proofs.UnpackAnswer.{unpack-eights-even, unpack-eights-into}
 use Rattle.words_packing.proofs.unpacker.unpack_bytes.Goals as goal
-
-pub returns-then-out-ne0 : goal.returns-then-out-ne0
-returns-then-out-ne0 c = let p = unpack-eights-odd c.args.bytes.now c.args.out.now c.if-out-ne0.true in record { value = p.0; out_after = p.1 }
 
 pub overflow_mul-result : goal.overflow_mul-result
 overflow_mul-result c =
     let out = c.args.out.now in
     let k = accepted c.args.bytes.now _ _ (sym c.unpack_words.ensures.value ∙ c.in_ok-size.was) in
-    record { fits = omega (arith, k.fits, k.count, eights-count (length out / 8) out) }
+    record { fits = omega (arith, k.fits, k.count, eights_count (length out / 8) out) }
 
 pub returns-in_err-size-clause-value : goal.returns-in_err-size-clause-value
 returns-in_err-size-clause-value c =

@@ -6,25 +6,25 @@ use native.Mathlib.Omega.{arith}
 use lib.ListN.{length, take, drop}
 use borrow.Rule.Slice.PartMut.{Post-is}
 use Rattle.words_packing.specs.Pack.{low_bytes, words_from}
-use Rattle.words_packing.proofs.PackAnswer.{eights-count}
+use Rattle.words_packing.proofs.PackAnswer.{eights_count}
 use Rattle.words_packing.proofs.EightsWords.{word-put, put-long}
 use Rattle.words_packing.proofs.stands.U8Stands.put.Goals as goal
 
 pub overflow_mul-at : goal.overflow_mul-at
-overflow_mul-at c = let bs = c.args.space.now in omega (arith, eights-count (length bs / 8) bs, c.requires)
+overflow_mul-at c = let bs = c.args.space.now in omega (arith, eights_count (length bs / 8) bs, c.requires)
 
 pub overflow_add-at : goal.overflow_add-at
-overflow_add-at c = let bs = c.args.space.now in omega (arith, eights-count (length bs / 8) bs, c.requires)
+overflow_add-at c = let bs = c.args.space.now in omega (arith, eights_count (length bs / 8) bs, c.requires)
 
 pub slice_bounds-put_low-end : goal.slice_bounds-put_low-end
-slice_bounds-put_low-end c = let bs = c.args.space.now in omega (arith, eights-count (length bs / 8) bs, c.requires)
+slice_bounds-put_low-end c = let bs = c.args.space.now in omega (arith, eights_count (length bs / 8) bs, c.requires)
 
 pub returns : goal.returns
 returns c =
     let a = c.args in
     let bs = a.space.now in
     let k : ℕ = length bs / 8 in
-    let inside : a.i < k = omega (arith, eights-count k bs, c.requires) in
+    let inside : a.i < k = omega (arith, eights_count k bs, c.requires) in
     let new : List ℕ = take (a.i * 8) bs ++ (low_bytes 8 a.w ++ drop (a.i * 8 + 8) bs) in
     let h : a.i * 8 ≤ a.i * 8 + 8 = omega arith in
     rw (Post-is (a.i * 8) (a.i * 8 + 8) bs h, c.put_low.ensures)

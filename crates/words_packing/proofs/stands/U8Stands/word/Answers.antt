@@ -3,17 +3,17 @@ use mathlib.Core.Path.{sym, ◌∙◌}
 use Prim.Native.Nat.{◌/◌}
 use native.Mathlib.Omega.{arith}
 use lib.ListN.{length}
-use Rattle.words_packing.proofs.PackAnswer.{eights-count}
+use Rattle.words_packing.proofs.PackAnswer.{eights_count}
 use Rattle.words_packing.proofs.EightsWords.{word-of}
 use Rattle.words_packing.proofs.stands.U8Stands.word.Goals as goal
 
 pub overflow_mul-i : goal.overflow_mul-i
-overflow_mul-i c = let bs = c.args.space.now in omega (arith, eights-count (length bs / 8) bs, c.requires)
+overflow_mul-i c = let bs = c.args.space.now in omega (arith, eights_count (length bs / 8) bs, c.requires)
 
 pub low-requires : goal.low-requires
-low-requires c = let bs = c.args.space.now in omega (arith, eights-count (length bs / 8) bs, c.requires)
+low-requires c = let bs = c.args.space.now in omega (arith, eights_count (length bs / 8) bs, c.requires)
 
 pub returns : goal.returns
 returns c =
     let bs = c.args.space.now in
-    c.low.ensures ∙ sym (word-of (length bs / 8) c.args.i bs (omega (arith, eights-count (length bs / 8) bs, c.requires)))
+    c.low.ensures ∙ sym (word-of (length bs / 8) c.args.i bs (omega (arith, eights_count (length bs / 8) bs, c.requires)))
