@@ -1,20 +1,14 @@
--- Codes put one after the other behind those that are there: one, two, a run of blanks, a sign. Assumes nothing.
-use Prim.Native.Nat.{ℕ, zero, suc, ◌+◌, ◌-◌, ◌/◌, ◌≤◌, ◌<◌}
+-- Codes put one after the other behind those that are there, and a run of blanks in two parts. Assumes nothing.
+use Prim.Native.Nat.{ℕ, ◌+◌, ◌-◌, ◌/◌, ◌≤◌, ◌<◌}
 use native.Mathlib.Omega.{arith}
-use native.Mathlib.Numerals.{add-one}
-use mathlib.Core.Path.{◌≡◌, refl, ap, ◌∙◌}
-use mathlib.Core.List.{List, [], ◌∷◌, ◌++◌, append_assoc}
-use borrow.Author.Tests.{le-ltb}
-use lib.ListN.{length, take, set, length-append}
-use lib.Seq.{take-suc-set}
-use Rattle.words.specs.Text.{short_run, blanks, sign}
+use mathlib.Core.Path.{◌≡◌, ap, ◌∙◌}
+use mathlib.Core.List.{List, ◌∷◌, ◌++◌, append_assoc}
+use lib.ListN.{length, take, length-append}
+use Rattle.words.specs.Text.{short_run, blanks}
 
 -- xs put at a place of d, where e is what stands there afterwards and r the place behind them
 abbrev pub Put : List ℕ → List ℕ → ℕ → List ℕ → ℕ → Type 0
 Put xs d at e r = (r ≡ at + length xs) × (take r e ≡ take at d ++ xs)
-
-pub put_one : (d : List ℕ) (at a : ℕ) → at < length d → Put (a ∷ []) d at (set d at a) (at + 1)
-put_one d at a h = (refl, rw add-one (take-suc-set d at a h))
 
 pub put_then : (xs ys d e f : List ℕ) (at r q : ℕ) → Put xs d at e r → Put ys e r f q → Put (xs ++ ys) d at f q
 put_then xs ys d e f at r q a b = (
@@ -26,9 +20,6 @@ pub put_as : (xs ys d e : List ℕ) (at r : ℕ) → xs ≡ ys → Put xs d at e
 put_as xs ys d e at r q p = rw q at p
 
 -- RUNS
-pub run_long : (n : ℕ) → 3 ≤ n → 0 ∷ (n - 1) ∷ [] ≡ short_run n
-run_long n h = rw (le-ltb n 3 h)
-
 pub blanks-short : (n : ℕ) → n ≤ 64 → short_run n ≡ blanks n
 unfolding blanks
 blanks-short n h =
@@ -39,10 +30,3 @@ blanks-short n h =
 pub blanks-long : (n : ℕ) → 64 < n → n ≤ 128 → 0 ∷ 0o77 ∷ short_run (n - 64) ≡ blanks n
 unfolding blanks
 blanks-long n h l = let k : (n - 1) / 64 ≡ 1 = omega arith in rw k
-
-pub sign_zero : (c : ℕ) → c ≡ 0 → 0 ∷ 1 ∷ [] ≡ sign c []
-sign_zero c e = rw e
-
-pub sign-other : (c : ℕ) → (c ≡ 0 → ⊥) → c ∷ [] ≡ sign c []
-sign-other zero h = absurd (h refl)
-sign-other (suc c) h = refl

@@ -3,9 +3,9 @@ use Prim.Native.Nat.{ℕ, zero, suc, ◌+◌, ◌*◌, ◌≤◌, ◌<◌}
 use native.Mathlib.Numerals.{add-one}
 use native.Mathlib.Omega.{arith}
 use mathlib.Core.Path.{◌≡◌, refl, sym, ap, ◌∙◌}
-use mathlib.Core.List.{List, [], ◌∷◌, ◌++◌, append_assoc, append-nil, map}
+use mathlib.Core.List.{List, [], ◌∷◌, ◌++◌, append_assoc, map}
 use borrow.Author.Tests.{eq-eqb, ne_eqb}
-use lib.ListN.{length, get_or, take, drop, drop_of_length-le}
+use lib.ListN.{length, get_or, take, drop}
 use lib.Seq.{drop-cons}
 use Rattle.words.specs.Display.{code_of}
 use Rattle.words.specs.Text.{gap, blanks, sign, squeeze, compress}
@@ -40,9 +40,6 @@ module _ (l : List ℕ) (i n : ℕ) (inside : i < length l) where
       ap (λ (q : List ℕ). q ++ squeeze 0 (map code_of (drop (i + 1) l))) p.1
       ∙ append_assoc (take at d) (blanks n ++ sign (code_of (get_or l i 0)) []) (squeeze 0 (map code_of (drop (i + 1) l)))
       ∙ ap (λ (q : List ℕ). take at d ++ q) (sym (squeeze-sign h))
-
-pub left_end : (l d : List ℕ) (at n i : ℕ) → length l ≤ i → codes_left l d at n i ≡ take at d
-left_end l d at n i h = rw (drop_of_length-le l h) (append-nil (take at d))
 
 -- d holds the codes written, up to at, i columns are passed and the last n of them wait
 pub record Squeezed (l d : List ℕ) (at i n : ℕ) : Type 0 where

@@ -1,6 +1,6 @@
 -- Columns put one after the other behind those that are there.
 pub mod ColumnsBehind
--- What expanding answers, one law for each way out.
+-- Where words are text, their line has at most 80 columns.
 pub mod ExpandAnswer
 -- The columns that codes say, one code at a time, are the columns of the codes.
 pub mod SaidColumns

@@ -1,21 +1,22 @@
 -- The columns that codes say, one code at a time, are the columns of the codes. Assumes nothing.
 use Prim.Native.Nat.{ℕ, zero, suc, ◌+◌, ◌-◌, ◌*◌, ◌/◌, ◌%◌, ◌^◌, ◌≤◌, ◌<◌}
 use native.Mathlib.Omega.{arith}
-use mathlib.Core.Path.{◌≡◌, refl, sym, ap, ap₂, ◌∙◌, subst}
+use mathlib.Core.Path.{◌≡◌, refl, sym, ap, ◌∙◌, subst}
 use mathlib.Core.Bool.{Bool, true, false}
 use mathlib.Core.List.{List, [], ◌∷◌, ◌++◌, map, append_assoc, append-nil}
 use borrow.Author.Tests.{ne_eqb}
-use lib.Dec.{ltb→lt}
-use lib.ListN.{length, get_or, take, drop, replicate, length-append, length-replicate, take-append-drop, drop_of_length-le}
+use lib.ListN.{length, get_or, take, drop, replicate, length-append}
 use lib.Seq.{length-take-le}
 use Rattle.words.specs.Base.{all, is_word}
 use Rattle.words.specs.Display.{letter, blank}
 use Rattle.words.specs.Text.{gap, low_codes, all_codes, columns_of, says, is_text}
-use Rattle.words_text_expand.specs.Saying.{past, second_says, code_says, ahead_after, codes_say, state_after, word_says, word_ahead}
-use Rattle.words.proofs.TestParts.{T-true, true-T}
+use Rattle.words_text_expand.specs.Saying.{code_says, ahead_after, codes_say, state_after, word_says, word_ahead}
+use Rattle.words_text_expand.specs.declared.say.Ahead.{Ahead}
+use Rattle.words_text_expand.specs.declared.say.Ahead.TheVariants.{Alone, Past}
+use Rattle.words.proofs.TestParts.{T-true}
 use Rattle.words.proofs.TrimmedLine.{blank-letter}
 use Rattle.words_text_expand.proofs.ExpandAnswer.{text-fits}
-use Rattle.words_text_expand.proofs.ColumnsBehind.{same-beyond, Placed, placed-as}
+use Rattle.words_text_expand.proofs.ColumnsBehind.{same-beyond, Placed}
 use Rattle.words.proofs.AllPass.{passes, stops}
 use Rattle.words_text_form.proofs.OneForm.{text-words}
 use Rattle.words_text_form.proofs.TopCodes.{top_codes, top-word, word-parted}
@@ -25,11 +26,11 @@ letters-gaps : (n : ℕ) (r : List ℕ) → map letter (replicate n gap ++ r) �
 letters-gaps zero r = refl
 letters-gaps (suc n) r = λ t. blank-letter t ∷ letters-gaps n r t
 
-past-none : (cs : List ℕ) → codes_say past cs ≡ []
+past-none : (cs : List ℕ) → codes_say Past cs ≡ []
 past-none [] = refl
 past-none (c ∷ cs) = past-none cs
 
-codes-say : (cs : List ℕ) → codes_say 0 cs ≡ map letter (columns_of cs)
+codes-say : (cs : List ℕ) → codes_say Alone cs ≡ map letter (columns_of cs)
 unfolding letter
 codes-say [] = refl
 codes-say (zero ∷ []) = refl
@@ -41,57 +42,16 @@ codes-say (zero ∷ suc (suc y) ∷ r) =
     (ap (λ (q : List ℕ). replicate (1 + suc (suc y)) blank ++ q) (codes-say r) ∙ sym (letters-gaps (1 + suc (suc y)) (columns_of r)))
 codes-say (suc c ∷ r) = rw (ne_eqb (suc c) 0 (λ q. omega arith)) (λ t. letter (suc c) ∷ codes-say r t)
 
-pub says-codes : (ws : List ℕ) → codes_say 0 (all_codes ws) ≡ says ws
+pub says-codes : (ws : List ℕ) → codes_say Alone (all_codes ws) ≡ says ws
 unfolding says
 says-codes ws = codes-say (all_codes ws)
 
 -- CODES IN TWO PARTS
-say-append : (p : ℕ) (a b : List ℕ) → codes_say p (a ++ b) ≡ codes_say p a ++ codes_say (state_after p a) b
+say-append : (p : Ahead) (a b : List ℕ) → codes_say p (a ++ b) ≡ codes_say p a ++ codes_say (state_after p a) b
 say-append p [] b = refl
 say-append p (c ∷ a) b =
     ap (λ (r : List ℕ). code_says p c ++ r) (say-append (ahead_after p c) a b)
     ∙ sym (append_assoc (code_says p c) (codes_say (ahead_after p c) a) (codes_say (state_after (ahead_after p c) a) b))
-
--- ONE CODE
-pub second-colon : (c : ℕ) → c ≡ 1 → 58 ∷ [] ≡ second_says c
-second-colon c e = rw e
-
-pub second_run : (c : ℕ) → 0 < c → (c ≡ 1 → ⊥) → replicate (c + 1) blank ≡ second_says c
-second_run c h n = rw (ne_eqb c 0 (λ e. omega arith), ne_eqb c 1 n)
-
-pub colon-fits : (c at : ℕ) (d : List ℕ) → c ≡ 1 → at + length (second_says c) ≤ length d → at < length d
-colon-fits c at d e h = let l : length (second_says c) ≡ 1 = ap length (sym (second-colon c e)) in omega arith
-
-pub run_fits : (c at : ℕ) (d : List ℕ) → 0 < c → (c ≡ 1 → ⊥) → at + length (second_says c) ≤ length d → at + (c + 1) ≤ length d
-run_fits c at d p n h = omega (arith, ap length (second_run c p n), length-replicate (c + 1) blank)
-
--- what a code says, and what is ahead of the next
-abbrev Tells : ℕ → ℕ → List ℕ → ℕ → Type 0
-Tells p c xs q = (code_says p c ≡ xs) × (ahead_after p c ≡ q)
-
-pub tells-zero : (p c : ℕ) → p ≡ 0 → c ≡ 0 → Tells p c [] 1
-tells-zero p c e f = rw (e, f) (refl, refl)
-
-pub tells-sign : (p c : ℕ) → p ≡ 0 → (c ≡ 0 → ⊥) → Tells p c (letter c ∷ []) 0
-tells-sign p c e f = rw (e, ne_eqb c 0 f) (refl, refl)
-
-pub tells-nothing : (p c : ℕ) → (p ≡ 0 → ⊥) → (p ≡ 1 → ⊥) → Tells p c [] 2
-tells-nothing p c e f = rw (ne_eqb p 0 e, ne_eqb p 1 f) (refl, refl)
-
-pub tells-end : (p c : ℕ) → p ≡ 1 → c ≡ 0 → Tells p c [] 2
-tells-end p c e f = rw (e, f) (refl, refl)
-
-pub tells-pair : (p c : ℕ) → p ≡ 1 → (c ≡ 0 → ⊥) → Tells p c (second_says c) 0
-tells-pair p c e f = rw (e, ne_eqb c 0 f) (refl, refl)
-
-pub told : (p c q : ℕ) (xs d e : List ℕ) (at r : ℕ) → Tells p c xs q → Placed xs d at e r
-    → (r ≡ at + length (code_says p c)) × ((take r e ≡ take at d ++ code_says p c) × ((drop r e ≡ drop r d) × (q ≡ ahead_after p c)))
-told p c q xs d e at r t h =
-    let a = placed-as xs (code_says p c) d e at r (sym t.0) h in
-    (a.0, (a.1.0, (a.1.1, sym t.1)))
-
-pub tells-fits : (p c q at : ℕ) (xs d : List ℕ) → Tells p c xs q → at + length (code_says p c) ≤ length d → at + length xs ≤ length d
-tells-fits p c q at xs d t h = omega (arith, ap length t.0)
 
 -- d is c with columns put up to at, and ys are to come: together they are all
 pub record Toward (all c d ys : List ℕ) (at : ℕ) : Type 0 where
@@ -116,14 +76,14 @@ toward-end all c d at t = sym (append-nil (take at d)) ∙ t.owed
 
 -- ONE CODE MORE
 -- k codes of the word are said, and w has the others at its top
-pub record SaidWord (word p₀ at₀ : ℕ) (c d : List ℕ) (w p at k : ℕ) : Type 0 where
+pub record SaidWord (word : ℕ) (p₀ : Ahead) (at₀ : ℕ) (c d : List ℕ) (w : ℕ) (p : Ahead) (at k : ℕ) : Type 0 where
   pub few : k ≤ 10
   pub below : w < 2 ^ 60
   pub start : at₀ ≤ length c
   pub place : state_after p (top_codes (10 - k) w) ≡ word_ahead p₀ word
   pub toward : Toward (take at₀ c ++ word_says p₀ word) c d (codes_say p (top_codes (10 - k) w)) at
 
-pub word-start : (word p at : ℕ) (c : List ℕ) → word < 2 ^ 60 → at + length (word_says p word) ≤ length c → SaidWord word p at c c word p at 0
+pub word-start : (word : ℕ) (p : Ahead) (at : ℕ) (c : List ℕ) → word < 2 ^ 60 → at + length (word_says p word) ≤ length c → SaidWord word p at c c word p at 0
 unfolding word_says word_ahead
 word-start word p at c h l = record {
   few = omega arith;
@@ -138,7 +98,7 @@ word-start word p at c h l = record {
   };
 }
 
-module _ (word p₀ at₀ : ℕ) (c d : List ℕ) (w p at k : ℕ) (said : SaidWord word p₀ at₀ c d w p at k) (h : k < 10) where
+module _ (word : ℕ) (p₀ : Ahead) (at₀ : ℕ) (c d : List ℕ) (w : ℕ) (p : Ahead) (at k : ℕ) (said : SaidWord word p₀ at₀ c d w p at k) (h : k < 10) where
   later : List ℕ
   later = top_codes (10 - (k + 1)) (w % 2 ^ 54 * 64)
 
@@ -149,13 +109,10 @@ module _ (word p₀ at₀ : ℕ) (c d : List ℕ) (w p at k : ℕ) (said : SaidW
   toward-next : Toward (take at₀ c ++ word_says p₀ word) c d (code_says p (w / 2 ^ 54) ++ codes_say (ahead_after p (w / 2 ^ 54)) later) at
   toward-next = rw (sym (ap (codes_say p) next)) at said.toward
 
-  pub code_below : w / 2 ^ 54 < 64
-  code_below = omega (arith, said.below)
-
   pub code_fits : at + length (code_says p (w / 2 ^ 54)) ≤ length d
   code_fits = toward-fits (take at₀ c ++ word_says p₀ word) c d (code_says p (w / 2 ^ 54)) (codes_say (ahead_after p (w / 2 ^ 54)) later) at toward-next
 
-  pub word_more : (e : List ℕ) (x r : ℕ) → length e ≡ length d
+  pub word_more : (e : List ℕ) (x : Ahead) (r : ℕ) → length e ≡ length d
       → (r ≡ at + length (code_says p (w / 2 ^ 54))) × ((take r e ≡ take at d ++ code_says p (w / 2 ^ 54)) × ((drop r e ≡ drop r d) × (x ≡ ahead_after p (w / 2 ^ 54))))
       → SaidWord word p₀ at₀ c e (w % 2 ^ 54 * 64) x r (k + 1)
   unfolding later
@@ -163,13 +120,13 @@ module _ (word p₀ at₀ : ℕ) (c d : List ℕ) (w p at k : ℕ) (said : SaidW
     few = omega arith;
     below = omega arith;
     start = said.start;
-    place = ap (λ (y : ℕ). state_after y later) s.1.1.1 ∙ ap (state_after p) next ∙ said.place;
+    place = ap (λ (y : Ahead). state_after y later) s.1.1.1 ∙ ap (state_after p) next ∙ said.place;
     toward =
-        subst (λ (y : ℕ). Toward (take at₀ c ++ word_says p₀ word) c e (codes_say y later) r) (sym s.1.1.1)
+        subst (λ (y : Ahead). Toward (take at₀ c ++ word_says p₀ word) c e (codes_say y later) r) (sym s.1.1.1)
         (toward-more (take at₀ c ++ word_says p₀ word) c d e (code_says p (w / 2 ^ 54)) (codes_say (ahead_after p (w / 2 ^ 54)) later) at r l (s.0, (s.1.0, s.1.1.0)) toward-next);
   }
 
-pub word_end : (word p₀ at₀ : ℕ) (c d : List ℕ) (w p at k : ℕ) → SaidWord word p₀ at₀ c d w p at k → 10 ≤ k
+pub word_end : (word : ℕ) (p₀ : Ahead) (at₀ : ℕ) (c d : List ℕ) (w : ℕ) (p : Ahead) (at k : ℕ) → SaidWord word p₀ at₀ c d w p at k → 10 ≤ k
     → (at ≡ at₀ + length (word_says p₀ word)) × ((take at d ≡ take at₀ c ++ word_says p₀ word) × ((drop at d ≡ drop at c) × (p ≡ word_ahead p₀ word)))
 word_end word p₀ at₀ c d w p at k said h =
     let all : List ℕ = take at₀ c ++ word_says p₀ word in
@@ -183,13 +140,13 @@ word_end word p₀ at₀ c d w p at k said h =
 
 -- ONE WORD MORE
 -- the words up to i are said
-pub record SaidText (ws c d : List ℕ) (p at i : ℕ) : Type 0 where
+pub record SaidText (ws c d : List ℕ) (p : Ahead) (at i : ℕ) : Type 0 where
   pub inside : i ≤ length ws
   pub long : length c ≡ 80
   pub words : all is_word (drop i ws) ≡ true
   pub toward : Toward (says ws) c d (codes_say p (all_codes (drop i ws))) at
 
-pub text-start : (ws c : List ℕ) → is_text ws ≡ true → length c ≡ 80 → SaidText ws c c 0 0 0
+pub text-start : (ws c : List ℕ) → is_text ws ≡ true → length c ≡ 80 → SaidText ws c c Alone 0 0
 text-start ws c h l = record {
   inside = omega arith;
   long = l;
@@ -202,7 +159,7 @@ text-start ws c h l = record {
   };
 }
 
-module _ (ws c d : List ℕ) (p at i : ℕ) (said : SaidText ws c d p at i) (h : i < length ws) where
+module _ (ws c d : List ℕ) (p : Ahead) (at i : ℕ) (said : SaidText ws c d p at i) (h : i < length ws) where
   rest : List ℕ
   rest = all_codes (drop (i + 1) ws)
 
@@ -220,13 +177,10 @@ module _ (ws c d : List ℕ) (p at i : ℕ) (said : SaidText ws c d p at i) (h :
       go true e = refl
       go false e = sym (stops is_word ws i h e) ∙ said.words
 
-  pub word_below : get_or ws i 0 < 2 ^ 60
-  word_below = ltb→lt (get_or ws i 0) (2 ^ 60) (true-T (is_word (get_or ws i 0)) word-is)
-
   pub word_fits : at + length (word_says p (get_or ws i 0)) ≤ length d
   word_fits = toward-fits (says ws) c d (word_says p (get_or ws i 0)) (codes_say (word_ahead p (get_or ws i 0)) rest) at toward-word
 
-  pub text-more : (e : List ℕ) (x r : ℕ) → length e ≡ length d
+  pub text-more : (e : List ℕ) (x : Ahead) (r : ℕ) → length e ≡ length d
       → (r ≡ at + length (word_says p (get_or ws i 0))) × ((take r e ≡ take at d ++ word_says p (get_or ws i 0)) × ((drop r e ≡ drop r d) × (x ≡ word_ahead p (get_or ws i 0))))
       → SaidText ws c e x r (i + 1)
   unfolding rest
@@ -235,13 +189,6 @@ module _ (ws c d : List ℕ) (p at i : ℕ) (said : SaidText ws c d p at i) (h :
     long = said.long;
     words = passes is_word ws i h word-is ∙ said.words;
     toward =
-        subst (λ (y : ℕ). Toward (says ws) c e (codes_say y rest) r) (sym s.1.1.1)
+        subst (λ (y : Ahead). Toward (says ws) c e (codes_say y rest) r) (sym s.1.1.1)
         (toward-more (says ws) c d e (word_says p (get_or ws i 0)) (codes_say (word_ahead p (get_or ws i 0)) rest) at r l (s.0, (s.1.0, s.1.1.0)) toward-word);
   }
-
-pub text-end : (ws c d : List ℕ) (p at i : ℕ) → SaidText ws c d p at i → length ws ≤ i → (at ≡ length (says ws)) × (d ≡ says ws ++ drop at c)
-text-end ws c d p at i said h =
-    let t : Toward (says ws) c d [] at = subst (λ (r : List ℕ). Toward (says ws) c d (codes_say p (all_codes r)) at) (drop_of_length-le ws h) said.toward in
-    let a : take at d ≡ says ws = toward-end (says ws) c d at t in
-    let n : length (take at d) ≡ at = length-take-le at d (omega (arith, t.fits, t.long)) in
-    (omega (arith, ap length a), sym (take-append-drop at d) ∙ ap₂ ◌++◌ a t.rest)

@@ -17,11 +17,6 @@ pub(crate) fn put_columns(b: u8, n: usize, line: &mut [u8], at: usize) -> usize
     ensures line_after { take result line.new ≡ take at line.old ++ replicate n b }
     ensures line_unchanged { drop result line.new ≡ drop result line.old }
 {
-    let end = at + n;
-    let mut i = at;
-    while i < end {
-        line[i] = b;
-        i += 1;
-    }
-    i
+    line[at..at + n].fill(b);
+    at + n
 }

@@ -6,6 +6,7 @@ use crate::say::say;
 use words_text_form::{COLUMNS, is_text};
 
 // How many columns were written, or that the words are no text.
+#[tactic(auto, unfolding(crate::specs::Answers::expanding, crate::specs::Answers::expand_into))]
 pub fn expand(text: &[u64], line: &mut [u8; COLUMNS]) -> Option<usize>
     ensures value { result ≡ expanding text.now }
     ensures line_after { line.new ≡ expand_into text.now line.old }

@@ -8,18 +8,22 @@ use words::{BASE, BLANK, TEN, TOP, letter_in};
 
 const COLON: u8 = b':';
 
-// What is ahead of a code: nothing that it belongs to, a 0 whose second code it is, the line's end.
-const ALONE: u8 = 0;
-
-const SECOND: u8 = 1;
-
-const PAST: u8 = 2;
+// What is ahead of a code.
+#[derive(Clone, Copy, PartialEq, Eq)]
+enum Ahead {
+    // nothing that it belongs to
+    Alone,
+    // a 0, whose second code it is
+    Second,
+    // the line's end
+    Past,
+}
 
 // Where the next column is put, and what is ahead of the next code.
 #[derive(Clone, Copy)]
 struct Said {
     at: usize,
-    ahead: u8,
+    ahead: Ahead,
 }
 
 // A colon or a run of blanks, whichever the second code of a pair says.
@@ -37,65 +41,59 @@ fn say_second(c: usize, line: &mut [u8], at: usize) -> usize
     put_columns(BLANK, c + 1, line, at)
 }
 
-fn say_code(c: usize, ahead: u8, line: &mut [u8], at: usize) -> Said
+fn say_code(c: usize, s: Said, line: &mut [u8]) -> Said
     requires c_bound { c < 64 }
-    requires c_in_bounds { at + length (code_says ahead c) ≤ length line.old }
-    ensures at_value { result.at ≡ at + length (code_says ahead c) }
-    ensures line_after { take result.at line.new ≡ take at line.old ++ code_says ahead c }
+    requires c_in_bounds { s.at + length (code_says s.ahead c) ≤ length line.old }
+    ensures at_value { result.at ≡ s.at + length (code_says s.ahead c) }
+    ensures line_after { take result.at line.new ≡ take s.at line.old ++ code_says s.ahead c }
     ensures line_unchanged { drop result.at line.new ≡ drop result.at line.old }
-    ensures ahead_value { result.ahead ≡ ahead_after ahead c }
+    ensures ahead_value { result.ahead ≡ ahead_after s.ahead c }
 {
-    if ahead == ALONE {
-        if c == 0 {
-            return Said {
-                at: at,
-                ahead: SECOND,
-            };
+    match s.ahead {
+        Ahead::Alone => {
+            if c == 0 {
+                return Said {
+                    at: s.at,
+                    ahead: Ahead::Second,
+                };
+            }
+            Said {
+                at: put_column(letter_in(c), line, s.at),
+                ahead: Ahead::Alone,
+            }
         }
-        return Said {
-            at: put_column(letter_in(c), line, at),
-            ahead: ALONE,
-        };
-    }
-    if ahead != SECOND {
-        return Said {
-            at: at,
-            ahead: PAST,
-        };
-    }
-    if c == 0 {
-        return Said {
-            at: at,
-            ahead: PAST,
-        };
-    }
-    Said {
-        at: say_second(c, line, at),
-        ahead: ALONE,
+        Ahead::Second => {
+            if c == 0 {
+                return Said {
+                    at: s.at,
+                    ahead: Ahead::Past,
+                };
+            }
+            Said {
+                at: say_second(c, line, s.at),
+                ahead: Ahead::Alone,
+            }
+        }
+        Ahead::Past => s,
     }
 }
 
 // The ten codes of a word, from the top.
-fn say_word(word: u64, ahead: u8, line: &mut [u8], at: usize) -> Said
+fn say_word(word: u64, s: Said, line: &mut [u8]) -> Said
     requires word_bound { word < 2 ^ 60 }
-    requires word_in_bounds { at + length (word_says ahead word) ≤ length line.old }
-    ensures at_value { result.at ≡ at + length (word_says ahead word) }
-    ensures line_after { take result.at line.new ≡ take at line.old ++ word_says ahead word }
+    requires word_in_bounds { s.at + length (word_says s.ahead word) ≤ length line.old }
+    ensures at_value { result.at ≡ s.at + length (word_says s.ahead word) }
+    ensures line_after { take result.at line.new ≡ take s.at line.old ++ word_says s.ahead word }
     ensures line_unchanged { drop result.at line.new ≡ drop result.at line.old }
-    ensures ahead_value { result.ahead ≡ word_ahead ahead word }
+    ensures ahead_value { result.ahead ≡ word_ahead s.ahead word }
 {
     let mut w = word;
-    let mut p = ahead;
-    let mut n = at;
-    let mut k = 0;
-    while k < TEN {
-        let said = say_code((w / TOP) as usize, p, line, n);
-        n = said.at;
-        p = said.ahead;
+    let mut said = s;
+    for _k in 0..TEN {
+        said = say_code((w / TOP) as usize, said, line);
         w = w % TOP * BASE;
-        k += 1;
     }
-    Said { at: n, ahead: p }
+    said
 }
 
 // The columns that a text says.
@@ -105,14 +103,12 @@ pub(crate) fn say(text: &[u64], line: &mut [u8]) -> usize
     ensures value { result ≡ length (says text.now) }
     ensures line_after { line.new ≡ says text.now ++ drop result line.old }
 {
-    let mut at = 0;
-    let mut ahead = ALONE;
-    let mut i = 0;
-    while i < text.len() {
-        let said = say_word(text[i], ahead, line, at);
-        at = said.at;
-        ahead = said.ahead;
-        i += 1;
+    let mut said = Said {
+        at: 0,
+        ahead: Ahead::Alone,
+    };
+    for word in text {
+        said = say_word(*word, said, line);
     }
-    at
+    said.at
 }
