@@ -1,26 +1,34 @@
 -- What a turn of a sum leaves to be summed gives the same sum. Assumes nothing.
-use mathlib.Core.Path.{◌≡◌}
-use mathlib.Core.List.{List}
-use Prim.Native.Nat.{ℕ, ◌+◌, ◌/◌, ◌%◌, ◌<◌}
+--   a turn      sum-more, sum-none
+--   elements    each_byte, each-word
+use mathlib.Core.Path.{◌≡◌, refl, ap}
+use mathlib.Core.List.{List, [], ◌∷◌, ◌++◌}
+use Prim.Native.Nat.{ℕ, suc, ◌+◌, ◌/◌, ◌%◌, ◌<◌}
 use native.Mathlib.Numerals.{add-one}
 use lib.ListN.{length, drop, get_or}
 use lib.Seq.{drop-cons, drop-length}
+use Rattle.std.specs.List.{flat_map}
 use Rattle.cases_sums.specs.Space.{mixed, sum_from, halves}
 
-module _ (s : List ℕ) (sum i : ℕ) (h : i < length s) where
-  pub more_bytes : sum_from sum (drop i s) ≡ sum_from (mixed sum (get_or s i 0)) (drop (i + 1) s)
-  unfolding sum_from
-  more_bytes = rw (add-one, drop-cons s i 0 h)
-
-  pub more-words : sum_from sum (halves (drop i s))
-      ≡ sum_from (mixed (mixed sum (get_or s i 0 % 4294967296)) (get_or s i 0 / 4294967296)) (halves (drop (i + 1) s))
-  unfolding sum_from halves
-  more-words = rw (add-one, drop-cons s i 0 h)
-
-pub no_bytes : (s : List ℕ) (sum : ℕ) → sum_from sum (drop (length s) s) ≡ sum
+sum-join : (sum : ℕ) (xs ys : List ℕ) → sum_from sum (xs ++ ys) ≡ sum_from (sum_from sum xs) ys
 unfolding sum_from
-no_bytes s sum = rw drop-length
+sum-join sum [] ys = refl
+sum-join sum (x ∷ xs) ys = sum-join (mixed sum x) xs ys
 
-pub no_words : (s : List ℕ) (sum : ℕ) → sum_from sum (halves (drop (length s) s)) ≡ sum
-unfolding sum_from halves
-no_words s sum = rw drop-length
+module _ {A : Type 0} (numbers : A → List ℕ) (s : List A) (sum : ℕ) where
+  pub sum-more : (i : ℕ) (x : A) → i < length s → x ≡ get_or s i x
+      → sum_from sum (flat_map numbers (drop i s)) ≡ sum_from (sum_from sum (numbers x)) (flat_map numbers (drop (i + 1) s))
+  sum-more i x h e = rw (add-one, drop-cons s i x h, ← e) (sum-join sum (numbers x) (flat_map numbers (drop (suc i) s)))
+
+  pub sum-none : sum_from sum (flat_map numbers (drop (length s) s)) ≡ sum
+  unfolding sum_from
+  sum-none = rw drop-length
+
+pub each_byte : (s : List ℕ) → flat_map (λ b. b ∷ []) s ≡ s
+each_byte [] = refl
+each_byte (b ∷ s) = ap {B = List ℕ} (λ r. b ∷ r) (each_byte s)
+
+pub each-word : (s : List ℕ) → flat_map (λ w. w % 4294967296 ∷ w / 4294967296 ∷ []) s ≡ halves s
+unfolding halves
+each-word [] = refl
+each-word (w ∷ s) = ap {B = List ℕ} (λ r. w % 4294967296 ∷ w / 4294967296 ∷ r) (each-word s)

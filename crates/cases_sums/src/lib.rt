@@ -8,7 +8,7 @@ pub use numbers::{read_head, word_of};
 pub use space::{fill_bytes, fill_words, sum_bytes, sum_words};
 
 // A case's head: the op, the room, and the lengths of the two blobs.
-#[derive(Clone, Copy)]
+#[derive(Clone, Copy, PartialEq, Eq)]
 pub struct Head {
     pub op: u8,
     pub room: usize,
