@@ -1,7 +1,6 @@
 -- Cards linked by their owners, the last first, and followed along the links. Assumes nothing.
 --   Linking, link_start, link-more, link-end    each card goes ahead of its owner's others
 --   Following, follow-start, follow-more, follow-end    one owner's cards
---   top-more, top-end, top_start, taken-words                         owners from the highest down
 use Rattle.std.specs.Prelude.{if◌then◌else◌}
 use Prim.Native.Nat.{ℕ, suc, ◌-◌, ◌≤◌, ◌<◌}
 use native.Mathlib.Omega.{arith}
@@ -42,26 +41,24 @@ each_owned ws n at (p ∷ ps) h = go (eqb (seen_at ws p).owner n) (each_owned ws
     go false e = e
 
 -- LINKING: those passed are linked, the last first
-pub record Linking (ws before first link : List ℕ) (at : ℕ) : Type 0 where
+pub record Linking (ws first link : List ℕ) (at : ℕ) : Type 0 where
   pub back : List ℕ
-  pub size : length first ≡ length before
   pub whole : onto back (places_in ws at) ≡ backward ws
   pub below : Each (λ p. p < at) back
   pub chains : (n : ℕ) → n < length first → Chain ws link (get_or first n 0) (owned ws n back)
 
-module _ (ws before : List ℕ) where
-  pub link_start : (link : List ℕ) (size : ℕ) → before ≡ zeros size → Linking ws before before link 0
+module _ (ws : List ℕ) where
+  pub link_start : (link : List ℕ) (size : ℕ) → Linking ws (zeros size) link 0
   unfolding backward
-  link_start link size e =
+  link_start link size =
       record {
         back = [];
-        size = refl;
         whole = refl;
         below = tt;
-        chains = λ n h. ap (λ (l : List ℕ). get_or l n 0) e ∙ zeros-zero size n;
+        chains = λ n h. zeros-zero size n;
       }
 
-  module _ (first link : List ℕ) (at : ℕ) (inv : Linking ws before first link at) where
+  module _ (first link : List ℕ) (at : ℕ) (inv : Linking ws first link at) where
     module _ (h : at < length ws) (room : at < length link) (s : Seen) (is : s ≡ seen_at ws at) where
       abbrev own : ℕ
       own = (seen_at ws at).owner
@@ -95,24 +92,23 @@ module _ (ws before : List ℕ) where
               let other : get_or first2 n 0 ≡ get_or first n 0 = get_or-set_other first own n (suc at) 0 (λ q. eqb-false own n e (sym q)) in
               subst (λ (k : ℕ). Chain ws link2 k (owned ws n inv.back)) (sym other) kept
 
-      next-linked : Linking ws before first2 link2 (next_at ws at)
+      next-linked : Linking ws first2 link2 (next_at ws at)
       next-linked =
           record {
             back = at ∷ inv.back;
-            size = length-set first own (suc at) ∙ inv.size;
             whole = ap (onto inv.back) (sym (places-more ws at h)) ∙ inv.whole;
             below = ((next-inside ws at h).0, each_map (λ p. p < at) (λ p. p < next_at ws at) (λ p r. omega (arith, r, (next-inside ws at h).0)) inv.back inv.below);
             chains = λ n lt. chain_more n (omega (arith, lt, length-set first own (suc at)));
           }
 
-      pub link-more : (f l : List ℕ) → f ≡ set first s.owner (suc at) → l ≡ set link at (get_or first s.owner 0) → Linking ws before f l s.next
+      pub link-more : (f l : List ℕ) → f ≡ set first s.owner (suc at) → l ≡ set link at (get_or first s.owner 0) → Linking ws f l s.next
       link-more f l p q =
           let o : s.owner ≡ own = ap (λ (v : Seen). v.owner) is in
           let a : f ≡ first2 = p ∙ ap (λ (k : ℕ). set first k (suc at)) o in
           let b : l ≡ link2 = q ∙ ap (λ (k : ℕ). set link at (get_or first k 0)) o in
           let m : s.next ≡ next_at ws at = ap (λ (v : Seen). v.next) is in
-          subst (λ (k : ℕ). Linking ws before f l k) (sym m)
-          (subst (λ (x : List ℕ). Linking ws before x l (next_at ws at)) (sym a) (subst (λ (x : List ℕ). Linking ws before first2 x (next_at ws at)) (sym b) next-linked))
+          subst (λ (k : ℕ). Linking ws f l k) (sym m)
+          (subst (λ (x : List ℕ). Linking ws x l (next_at ws at)) (sym a) (subst (λ (x : List ℕ). Linking ws first2 x (next_at ws at)) (sym b) next-linked))
 
     pub link-end : length ws ≤ at → Linked ws first link
     link-end h n lt =
@@ -158,25 +154,3 @@ module _ (d ws link goal now : List ℕ) (s : ℕ) (inv : Following d ws link go
       go : (ps : List ℕ) → Chain ws link s ps → acted_all d ws ps now ≡ goal → now ≡ goal
       go [] c e = e
       go (p ∷ ps) c e = absurd (omega (arith, c.0))
-
--- OWNERS FROM THE HIGHEST DOWN
-pub top-more : (d ws : List ℕ) (n : ℕ) (now after : List ℕ) → 0 < n → after ≡ acted_all d ws (owned ws n (backward ws)) now
-    → from_top d ws n now ≡ from_top d ws (n - 1) after
-top-more d ws n now after h e =
-    let s : n ≡ suc (n - 1) = omega arith in
-    ap (λ (k : ℕ). from_top d ws k now) s ∙ ap (from_top d ws (n - 1)) (ap (λ (k : ℕ). acted_all d ws (owned ws k (backward ws)) now) (sym s) ∙ sym e)
-
-pub top-end : (d ws : List ℕ) (n : ℕ) (now : List ℕ) → n ≤ 0 → from_top d ws n now ≡ now
-top-end d ws n now h = let z : n ≡ 0 = omega arith in ap (λ (k : ℕ). from_top d ws k now) z
-
--- from no flag on
-pub top_start : (d ws : List ℕ) (n size : ℕ) (now after : List ℕ) → after ≡ from_top d ws n now → now ≡ zeros size → after ≡ from_top d ws n (zeros size)
-top_start d ws n size now after e z = e ∙ ap (from_top d ws n) z
-
--- no more words than a library may have
-pub taken-words : (ws : List ℕ) → take (if leb (length ws) 65536 then length ws else 65536) ws ≡ take 65536 ws
-taken-words ws = go (leb (length ws) 65536) refl
-  where
-    go : (b : Bool) → leb (length ws) 65536 ≡ b → take (if b then length ws else 65536) ws ≡ take 65536 ws
-    go true e = take-length ws ∙ sym (take_all 65536 ws (leb-true (length ws) 65536 e))
-    go false e = refl

@@ -3,7 +3,7 @@
 --   Marking, mark-start, mark-more, mark-end    the names of a field
 --   names-yank, names-other                     the names of a line
 --   act-on, act-off                             a card
-use Rattle.std.specs.Prelude.{if◌then◌else◌}
+use Rattle.std.specs.Prelude.{Some, None, if◌then◌else◌}
 use Prim.Native.Nat.{ℕ, ◌≤◌}
 use mathlib.Core.Path.{◌≡◌, refl, sym, ap, ◌∙◌}
 use mathlib.Core.Bool.{Bool, true, false}
@@ -17,7 +17,7 @@ use Rattle.words_lines.specs.Directive.{directive, params, field}
 use Rattle.words_lines.specs.declared.Line.{Line}
 use Rattle.words_lines.specs.declared.Line.TheVariants.{Text, Skipped, Deck as DeckLine·, Comdeck, Ident, Insert, Before, Delete, Restore, Yank as YankLine, Outside, Long, Malformed, NotCarried}
 use Rattle.words_lines.specs.Reading.{next_name}
-use Rattle.words_lines.specs.declared.NameStep.TheVariants.{Name, End}
+use Rattle.words_lines.specs.declared.NameAt.{NameAt}
 use Rattle.words_lines.proofs.FieldNames.{names_from, names-none, names_more, yank-names}
 use Rattle.library.specs.Library.{entry_of}
 use Rattle.library.specs.Yanks.{is_yank}
@@ -49,11 +49,11 @@ unfolding names_from
 mark-start d f before = refl
 
 module _ (d f before now : List ℕ) (at : ℕ) (inv : Marking d f before now at) where
-  pub mark-more : (w n m : ℕ) (after : List ℕ) → next_name f at ≡ Name w n → m ≡ entry_of d w → after ≡ mark now m → Marking d f before after n
-  mark-more w n m after e is x =
-      inv ∙ ap (λ (ws : List ℕ). marked d ws now) (names_more f at w n e) ∙ ap (λ (k : ℕ). marked d (names_from f n) (mark now k)) (sym is) ∙ ap (marked d (names_from f n)) (sym x)
+  pub mark-more : (n : NameAt) (m : ℕ) (after : List ℕ) → next_name f at ≡ Some n → m ≡ entry_of d n.word → after ≡ mark now m → Marking d f before after n.next
+  mark-more n m after e is x =
+      inv ∙ ap (λ (ws : List ℕ). marked d ws now) (names_more f at n e) ∙ ap (λ (k : ℕ). marked d (names_from f n.next) (mark now k)) (sym is) ∙ ap (marked d (names_from f n.next)) (sym x)
 
-  pub mark-end : next_name f at ≡ End → now ≡ marked d (map word_of_name (params f)) before
+  pub mark-end : next_name f at ≡ None → now ≡ marked d (map word_of_name (params f)) before
   mark-end e = sym (inv ∙ ap (λ (ws : List ℕ). marked d ws now) (names-none f at e))
 
 -- THE NAMES OF A LINE

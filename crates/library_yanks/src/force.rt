@@ -1,29 +1,23 @@
 // Whether a card is active under flags of yanked sets (RULES, "When a card is active").
-ghost use Rattle.std.specs.Prelude.{◌≡◌, false, [], ◌∷◌, ◌/◌, ◌%◌, ◌^◌, ◌≤◌, ◌<◌, length};
+ghost use Rattle.std.specs.Prelude.{◌≡◌, false, [], ◌∷◌, ◌/◌, ◌%◌, ◌^◌};
 ghost use Rattle.library.specs.Check.{raw_bytes};
 ghost use Rattle.library_yanks.specs.Bytes.{part, flagged, say_byte, say_all};
 
 use library::{FIELD, NUMBER, UPPER};
-use library_image::least;
+use library_image::word_at;
 
 // Whether a number is flagged; none beyond the flags is.
 pub fn is_flagged(flags: &[u64], n: u64) -> bool
     ensures { result ≡ flagged flags.now n }
 {
-    if flags.len() as u64 <= n {
-        return false;
-    }
-    flags[n as usize] == 1
+    word_at(flags, n as usize) == 1
 }
 
 // What the bytes so far and this one say of the card's activity.
 fn say_byte(flags: &[u64], so: bool, b: u64) -> bool
     ensures { result ≡ say_byte (flagged flags.now) so b }
 {
-    if b == 0 {
-        return so;
-    }
-    if is_flagged(flags, b % NUMBER) {
+    if b == 0 || is_flagged(flags, b % NUMBER) {
         return so;
     }
     b / NUMBER % 2 == 1
@@ -37,15 +31,16 @@ fn say_word(flags: &[u64], so: bool, w: u64) -> bool
     say_byte(flags, b, w % FIELD)
 }
 
-fn active_in(image: &[u64], at: usize, text: usize, flags: &[u64]) -> bool
-    requires { (at < text) × (text ≤ length image.now) }
-    ensures { result ≡ say_all (flagged flags.now) false (raw_bytes (part at text image.now)) }
+// What the words of a history say, of which the first has one byte.
+fn say_history(flags: &[u64], words: &[u64]) -> bool
+    ensures { result ≡ say_all (flagged flags.now) false (raw_bytes words.now) }
 {
-    let mut so = say_byte(flags, false, image[at] % FIELD);
-    let mut i = at + 1;
-    while i < text {
-        so = say_word(flags, so, image[i]);
-        i += 1;
+    let [first, further @ ..] = words else {
+        return false;
+    };
+    let mut so = say_byte(flags, false, *first % FIELD);
+    for word in further {
+        so = say_word(flags, so, *word);
     }
     so
 }
@@ -54,9 +49,8 @@ fn active_in(image: &[u64], at: usize, text: usize, flags: &[u64]) -> bool
 pub fn is_active(image: &[u64], at: usize, text: usize, flags: &[u64]) -> bool
     ensures { result ≡ say_all (flagged flags.now) false (raw_bytes (part at text image.now)) }
 {
-    let end = least(text, image.len());
-    if end <= at {
-        return false;
+    match image.get(at..text.min(image.len())) {
+        Some(words) => say_history(flags, words),
+        None => false,
     }
-    active_in(image, at, end, flags)
 }
