@@ -6,11 +6,11 @@ use native.Mathlib.Numerals.{add-one}
 use native.Mathlib.Nat.{pow-suc, pow-le-pow_right}
 use mathlib.Core.Path.{◌≡◌, refl, sym, ap, ap₂, ◌∙◌}
 use mathlib.Core.Bool.{true, false, ◌&&◌}
-use mathlib.Core.List.{List, [], ◌∷◌, ◌++◌, append-nil}
+use mathlib.Core.List.{List, ◌∷◌, ◌++◌, append-nil}
 use borrow.Author.Tests.{lt-ltb, le-ltb, le-leb, lt-leb}
 use lib.Dec.{ltb, lit<}
-use lib.ListN.{length, get_or, take, drop, set, replicate, drop_of_length-le, replicate-append-replicate}
-use lib.Seq.{drop-cons, set_split, drop_at, length-take-le, take-suc-set}
+use lib.ListN.{length, get_or, take, drop, set, replicate, drop_of_length-le}
+use lib.Seq.{drop-cons, set_split, drop_at, length-take-le}
 use Rattle.words.specs.Base.{all}
 use Rattle.words.specs.Display.{blank}
 use Rattle.words.specs.Names.{is_digit, decimal, is_number, number_read, digits, numeral, right_justified}
@@ -110,11 +110,6 @@ pub record Writes (n : ℕ) (d : List ℕ) (m i : ℕ) : Type 0 where
   pub owed : digits_read d m i ≡ numeral n
 
 -- RIGHT JUSTIFIED
--- one blank more at a field's front
-pub gap_more : (d : List ℕ) (i : ℕ) → i < length d → take i d ≡ replicate i blank → take (i + 1) (set d i blank) ≡ replicate (i + 1) blank
-gap_more d i h e =
-    rw add-one (take-suc-set d i blank h) ∙ ap (λ (r : List ℕ). r ++ (blank ∷ [])) e ∙ replicate-append-replicate i 1 blank
-
 module _ (n : ℕ) (d : List ℕ) where
   pub too-narrow : length d < length (numeral n) → (false ≡ number_fits n (length d)) × (d ≡ number_into n d)
   unfolding number_into

@@ -18,8 +18,6 @@ pub mod AllPass
 pub mod Powers
 -- The code at a place of a word.
 pub mod CodeAtPlace
--- Two lists compared from the front.
-pub mod ComparedLists
 -- A name's word from its letters, and a word's letters.
 pub mod NameWord
 -- Decimal numbers read and written, one digit at a time.

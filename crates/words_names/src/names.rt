@@ -1,10 +1,9 @@
 // Names as words, and decimal numbers (RULES, "Names and numbers", "The compile file").
-ghost use Rattle.std.specs.Prelude.{◌≡◌, ◌+◌, ◌-◌, ◌/◌, ◌%◌, ◌^◌, ◌≤◌, ◌<◌, length, drop};
+ghost use Rattle.std.specs.Prelude.{◌≡◌, ◌+◌, ◌-◌, ◌/◌, ◌%◌, ◌^◌, ◌≤◌, ◌<◌, length, take, drop, replicate};
 ghost use Rattle.words.specs.Names.{number_read, numeral};
 ghost use Rattle.words.specs.Spelt.{word_of_name, name_length, name_into, number_fits, number_into};
 
-use crate::columns::put_gap;
-use words::{BASE, BITS, GAP, TEN, code_of, letter_of, power};
+use words::{BASE, BITS, BLANK, GAP, TEN, code_of, letter_of, power};
 
 const NAME: usize = 9;
 
@@ -125,6 +124,14 @@ fn put_digits(n: u64, space: &mut [u8]) -> usize
     }
     space[at] = digit(m);
     at
+}
+
+// Blanks in the first n columns.
+fn put_gap(n: usize, line: &mut [u8])
+    requires { n ≤ length line.old }
+    ensures { take n line.new ≡ replicate n 32 }
+{
+    line[..n].fill(BLANK);
 }
 
 pub fn put_number(n: u64, field: &mut [u8]) -> bool
