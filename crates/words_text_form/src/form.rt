@@ -13,7 +13,7 @@ pub const COLUMNS: usize = 80;
 // one more than the largest word
 const SIXTY: u64 = 0o100000000000000000000;
 
-// what may follow, held as six times its number in the definition, which is the place of its field
+// what may follow, held as its place
 const SIGNED: usize = 18;
 
 const START: usize = 24;
@@ -41,10 +41,17 @@ const PLACES: usize = 64;
 
 const HALF: usize = 32;
 
-// The fields of a code. Numbers in a match stand in the program; a table would be written out at each use. Even and odd codes apart: side by side
-// they would be a range, which is a test.
+// What may follow, held as six times its number in the definition: the place of its field, so that a step is one shift.
+#[derive(Clone, Copy)]
+struct State {
+    place: usize,
+    ghost in_sixes: { place % 6 ≡ 0 },
+    ghost in_fields: { place < 60 },
+}
+
+// The fields of a code. Numbers in a match stand in the program; a table would be written out at each use.
+#[tactic(auto, unfolding(crate::specs::Form::fields_of))]
 fn fields_of(c: usize) -> u64
-    requires { c < 64 }
     ensures { result ≡ fields_of c }
 {
     match c {
@@ -52,146 +59,68 @@ fn fields_of(c: usize) -> u64
         1 => FIRST,
         45 => BLANK,
         63 => LONGEST,
-        2
-        | 4
-        | 6
-        | 8
-        | 10
-        | 12
-        | 14
-        | 16
-        | 18
-        | 20
-        | 22
-        | 24
-        | 26
-        | 28
-        | 30
-        | 32
-        | 34
-        | 36
-        | 38
-        | 40
-        | 42
-        | 44
-        | 46
-        | 48
-        | 50
-        | 52
-        | 54
-        | 56
-        | 58
-        | 60
-        | 62 => OTHER,
-        3
-        | 5
-        | 7
-        | 9
-        | 11
-        | 13
-        | 15
-        | 17
-        | 19
-        | 21
-        | 23
-        | 25
-        | 27
-        | 29
-        | 31
-        | 33
-        | 35
-        | 37
-        | 39
-        | 41
-        | 43
-        | 47
-        | 49
-        | 51
-        | 53
-        | 55
-        | 57
-        | 59
-        | 61 => OTHER,
-        _ => 0,
+        _ => OTHER,
     }
 }
 
-fn step(state: usize, c: usize) -> usize
-    requires state_value { state % 6 ≡ 0 }
-    requires state_bound { state < 60 }
-    requires c_bound { c < 64 }
-    ensures value { result ≡ 6 * step (state / 6) c }
-    ensures upper_bound { result < 60 }
+fn step(s: State, c: usize) -> State
+    requires { c < 64 }
+    ensures { result.place ≡ 6 * step (s.place / 6) c }
 {
-    (fields_of(c) >> state) as usize % PLACES
+    State {
+        place: (fields_of(c) >> s.place) as usize % PLACES,
+    }
 }
 
 // One where the code is not 0; where a pair's second code is due, one where it is above 1, and the code itself.
-fn columns_in(state: usize, c: usize) -> usize
-    requires state_value { state % 6 ≡ 0 }
-    requires state_bound { state < 60 }
-    requires c_bound { c < 64 }
-    ensures { result ≡ columns_in (state / 6) c }
+fn columns_in(s: State, c: usize) -> usize
+    requires { c < 64 }
+    ensures { result ≡ columns_in (s.place / 6) c }
 {
-    let due = state / HALF;
+    let due = s.place / HALF;
     (c + PLACES - 1 - due) / PLACES + due * c
 }
 
 // What may follow, and the columns so far.
 #[derive(Clone, Copy)]
 struct Walk {
-    state: usize,
+    state: State,
     columns: usize,
 }
 
 // The ten codes of a word, from the top.
-fn walk_word(word: u64, state: usize, columns: usize) -> Walk
+fn walk_word(word: u64, from: Walk) -> Walk
     requires word_bound { word < 2 ^ 60 }
-    requires state_value { state % 6 ≡ 0 }
-    requires state_bound { state < 60 }
-    requires columns_bound { columns ≤ 10240 }
-    ensures state_value_2 { result.state ≡ 6 * after_word (state / 6) word }
-    ensures state_bound_2 { result.state < 60 }
-    ensures columns_value { result.columns ≡ columns + count_word (state / 6) word }
-    ensures columns_bound_2 { result.columns ≤ columns + 640 }
+    requires columns_bound { from.columns ≤ 10240 }
+    ensures state_value { result.state.place ≡ 6 * after_word (from.state.place / 6) word }
+    ensures columns_value { result.columns ≡ from.columns + count_word (from.state.place / 6) word }
+    ensures columns_bound_2 { result.columns ≤ from.columns + 640 }
 {
     let mut w = word;
-    let mut s = state;
-    let mut n = columns;
-    let mut k = 0;
-    while k < TEN {
+    let mut walk = from;
+    for _k in 0..TEN {
         let c = (w / TOP) as usize;
-        n += columns_in(s, c);
-        s = step(s, c);
+        walk = Walk {
+            state: step(walk.state, c),
+            columns: walk.columns + columns_in(walk.state, c),
+        };
         w = w % TOP * BASE;
-        k += 1;
     }
-    Walk {
-        state: s,
-        columns: n,
-    }
+    walk
 }
 
 // The line's end is there, and it has at most 80 columns.
-fn may_end(state: usize, columns: usize) -> bool
-    ensures { result ≡ (may_end (state / 6) && leb columns 80) }
+fn may_end(walk: Walk) -> bool
+    ensures { result ≡ (may_end (walk.state.place / 6) && leb walk.columns 80) }
 {
-    if state < SIGNED {
-        return false;
-    }
-    if PAIR_NEXT <= state {
-        return false;
-    }
-    columns <= COLUMNS
+    let place = walk.state.place;
+    SIGNED <= place && place < PAIR_NEXT && walk.columns <= COLUMNS
 }
 
 fn ends_full(text: &[u64]) -> bool
     ensures { result ≡ ends_full text.now }
 {
-    if text.len() == 0 {
-        return true;
-    }
-    text[text.len() - 1] != 0
+    text.last() != Some(&0)
 }
 
 // Row 6: whether words are the words of a line.
@@ -204,18 +133,15 @@ pub fn is_text(text: &[u64]) -> bool
     if !ends_full(text) {
         return false;
     }
-    let mut s = START;
-    let mut n = 0;
-    let mut i = 0;
-    while i < text.len() {
-        let word = text[i];
-        if SIXTY <= word {
+    let mut walk = Walk {
+        state: State { place: START },
+        columns: 0,
+    };
+    for word in text {
+        if SIXTY <= *word {
             return false;
         }
-        let walk = walk_word(word, s, n);
-        s = walk.state;
-        n = walk.columns;
-        i += 1;
+        walk = walk_word(*word, walk);
     }
-    may_end(s, n)
+    may_end(walk)
 }
