@@ -7,16 +7,16 @@ use native.Mathlib.Omega.{arith}
 use mathlib.Core.Path.{◌≡◌, refl, sym, ap, ◌∙◌, subst}
 use mathlib.Core.Bool.{Bool, true, false}
 use mathlib.Core.List.{List, [], ◌∷◌}
-use borrow.Author.Tests.{eqb-true, eqb-false, leb-true}
-use lib.Dec.{eqb, leb}
-use lib.ListN.{length, get_or, set, take, length-set}
-use lib.Seq.{take_all, take-length, get_or-set_same, get_or-set_other}
+use borrow.Author.Tests.{eqb-true, eqb-false}
+use lib.Dec.{eqb}
+use lib.ListN.{length, get_or, set, length-set}
+use lib.Seq.{get_or-set_same, get_or-set_other}
 use Rattle.library.specs.Each.{Each}
 use Rattle.library.proofs.EachTest.{each_map}
 use Rattle.library.specs.declared.Seen.{Seen}
 use Rattle.library_index.proofs.Zeros.{zeros, zeros-zero}
 use Rattle.library_image.specs.Places.{next_at, seen_at, places_in}
-use Rattle.library_yanks.specs.Flags.{onto, backward, owned, acted, acted_all, from_top, Chain, Linked}
+use Rattle.library_yanks.specs.Flags.{onto, backward, owned, acted, acted_all, Chain, Linked}
 use Rattle.library_image.proofs.CardPlaces.{next-inside, places-more, places-end}
 
 -- CHAINS: a link of a place beyond leaves them

@@ -1,4 +1,4 @@
--- A card's bytes looked at one after another, for its activity: one law for each way out.
+-- Unused bytes say nothing of a card's activity.
 pub mod Weighing
 -- A name's flag is one of the flags, and is added to them.
 pub mod Adding

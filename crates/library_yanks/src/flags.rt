@@ -64,7 +64,7 @@ fn act_owner(
 
 // In places for N words of cards: the owners from the highest down.
 fn settle_in<const N: usize>(directory: &[u64], cards: &[u64], flags: &mut [u64])
-    requires { (length cards.now ≤ 65536) × (length cards.now ≤ N) }
+    requires { (length cards.now ≤ N) × (N ≤ 65536) }
     ensures { flags.new ≡ from_top directory.now cards.now (top directory.now) (replicate (length flags.old) 0) }
 {
     let index = Index::new(directory);
@@ -77,6 +77,7 @@ fn settle_in<const N: usize>(directory: &[u64], cards: &[u64], flags: &mut [u64]
 }
 
 // Which sets are yanked: 1 in the flag of each, 0 in every other.
+#[tactic(auto, using(std::proofs::lemmas::List::take_min), unfolding(crate::specs::Flags::settled_flags))]
 pub fn settle(directory: &[u64], cards: &[u64], flags: &mut [u64])
     ensures { flags.new ≡ settled_flags directory.now cards.now (length flags.old) }
 {

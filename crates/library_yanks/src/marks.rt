@@ -20,10 +20,8 @@ fn mark_number(flags: &mut [u64], n: usize)
 fn mark_names(index: &Index, field: &[u8], flags: &mut [u64])
     ensures { flags.new ≡ marked index.now.names.now (map word_of_name (params field.now)) flags.old }
 {
-    let mut at = 0;
-    while let Some(name) = words_lines_asked::next_name(field, at) {
-        mark_number(flags, index.number(name.word));
-        at = name.next;
+    for word in words_lines_asked::names_of(field) {
+        mark_number(flags, index.number(word));
     }
 }
 

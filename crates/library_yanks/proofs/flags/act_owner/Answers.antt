@@ -19,3 +19,6 @@ loop-s-preserved c = let l = c.loop-s in let f = follow-next c.args.index.now.na
 
 pub returns : goal.returns
 returns c = let l = c.loop-s in follow-end c.args.index.now.names.now c.args.cards.now c.args.link.now _ l.flags l.s l.invariant (omega (arith, c.loop-s-test.false))
+
+pub offset_bounds-link-p : goal.offset_bounds-link-p
+offset_bounds-link-p c = let l = c.loop-s in let f = follow-next c.args.index.now.names.now c.args.cards.now c.args.link.now _ l.flags l.s l.invariant c.loop-s-test.true in record { fits = omega (arith, f.inside) }

@@ -1,11 +1,10 @@
 -- The names passed are marked, those left are still to come.
-use Prim.Native.Nat.{◌+◌, ◌-◌, ◌≤◌}
-use lib.ListN.{length}
-use Rattle.library_yanks.proofs.Marking.{Marking}
+use Rattle.std.proofs.Common.{◌≡◌, map}
+use Rattle.words.specs.Spelt.{word_of_name}
+use Rattle.words_lines.specs.Directive.{params}
+use Rattle.words_lines_asked.specs.Parameters.{names_left}
+use Rattle.library_yanks.specs.Flags.{marked}
 use Rattle.library_yanks.proofs.marks.mark_names.Given as goal
 
-abbrev pub invariant-loop-name : goal.invariant-loop-name
-invariant-loop-name l = (l.at ≤ length l.field + 1) × Marking l.index.names.now l.field l.initial.flags l.flags l.at
-
-abbrev pub decreases-loop-name : goal.decreases-loop-name
-decreases-loop-name l = length l.field + 1 - l.at
+abbrev pub invariant-loop-word : goal.invariant-loop-word
+invariant-loop-word l = marked l.index.names.now (names_left l.word-iterator) l.flags ≡ marked l.index.names.now (map word_of_name (params l.field)) l.initial.flags
