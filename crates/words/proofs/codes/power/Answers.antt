@@ -4,12 +4,9 @@ use Prim.Native.Nat.{◌^◌}
 use mathlib.Core.Path.{sym, ap, ◌∙◌}
 use mathlib.Core.Bool.{Bool}
 use native.Mathlib.Omega.{arith}
-use borrow.Author.Tests.{lt-ltb, le-ltb}
+use borrow.Author.Tests.{lt-ltb}
 use Rattle.words.proofs.Powers.{shifted}
 use Rattle.words.proofs.codes.power.Goals as goal
-
-pub returns-then-k-ge-TEN : goal.returns-then-k-ge-TEN
-returns-then-k-ge-TEN c = sym (ap (λ (b : Bool). if b then 64 ^ c.args.k else 0) (le-ltb c.args.k 10 (omega arith)))
 
 pub returns : goal.returns
 returns c =

@@ -1,12 +1,12 @@
 -- `display::letter_of` is right because each sign's code gives the sign, and the other numbers were tried one by one. Assumes nothing.
-use Prim.Native.Nat.{ℕ, ◌+◌, ◌-◌, ◌≤◌, ◌<◌}
+use Prim.Native.Nat.{ℕ, ◌≤◌, ◌<◌}
 use native.Mathlib.Omega.{arith}
 use mathlib.Core.Path.{◌≡◌, sym}
 use mathlib.Core.List.{List, ◌∷◌}
 use lib.Dec.{T, eqb, eqb→eq}
 use Rattle.words.specs.Display.{letter, blank}
 use Rattle.words.proofs.EveryPlace.{Apart, from, left_over}
-use Rattle.words.proofs.ChartBothWays.{counts, counts-from, counts-is}
+use Rattle.words.proofs.ChartBothWays.{counts, counts-is}
 use Rattle.words.proofs.display.letter_of.Goals as goal
 
 -- the codes that have an arm of their own, in the order of the match
@@ -21,26 +21,9 @@ digits : (c : ℕ) → Apart Unit c signs → 0o33 ≤ c → c < 0o45 → T (cou
 unfolding letter
 digits c a = left_over (counts letter 0o33 48) signs 0o33 10 c tt a
 
-letters-fit : (c : ℕ) → c < 0o33 → c - 0o01 + 65 < 256
-letters-fit c h = omega arith
-
-digits-fit : (c : ℕ) → c < 0o45 → c - 0o33 + 48 < 256
-digits-fit c h = omega arith
-
 beyond : (c : ℕ) → Apart Unit c signs → 0o45 ≤ c → c < 256 → blank ≡ letter c
 unfolding letter
 beyond c a l h = sym (eqb→eq (letter c) blank (left_over (λ k. eqb (letter k) blank) signs 0o45 219 c tt a l h))
-
-pub overflow_sub-result : goal.overflow_sub-result
-overflow_sub-result c =
-    let k = c.args.c in
-    counts-from letter 0o01 65 k (letters k c.in-1-to-26.in_default-own.rest c.in-1-to-26.if-c-lt27-own.true)
-
-pub overflow_add-result : goal.overflow_add-result
-overflow_add-result c = record { fits = letters-fit c.args.c c.in-1-to-26.if-c-lt27-own.true }
-
-pub overflow_add-result-in-27-to-36 : goal.overflow_add-result-in-27-to-36
-overflow_add-result-in-27-to-36 c = record { fits = digits-fit c.args.c c.in-27-to-36.if-c-lt37-own.true }
 
 pub returns-in-1-to-26 : goal.returns-in-1-to-26
 returns-in-1-to-26 c =

@@ -1,13 +1,13 @@
 use Prim.Native.Nat.{ℕ, ◌-◌, ◌^◌}
 use native.Mathlib.Omega.{arith}
-use mathlib.Core.Path.{◌≡◌, refl, sym, ◌∙◌}
+use mathlib.Core.Path.{◌≡◌, sym, ◌∙◌}
 use mathlib.Core.Bool.{false}
 use borrow.Author.Tests.{eqb-true, eqb-false}
 use lib.ListN.{get_or, length}
 use Rattle.words.specs.Names.{is_name_byte}
-use Rattle.words.proofs.AllPass.{passes, stops}
-use Rattle.words.proofs.Powers.{power-more, power-low, power-fits, power_in}
-use Rattle.words.proofs.NameWord.{no-letters, many-letters, other-letter, letter-low, letter-high, letter-good, pack-more, pack-end}
+use Rattle.words.proofs.AllPass.{stops}
+use Rattle.words.proofs.Powers.{power-low, power-fits, power_in}
+use Rattle.words.proofs.NameWord.{no-letters, many-letters, other-letter, letter-low, letter-high, pack-end}
 use Rattle.words_names.proofs.names.word_of_name.Goals.{then-is_empty-via-then-is_empty, then-is_empty-via-else-is_empty+then-name-gt-NAME, then-c-le-COLON-via-then-c-le-COLON, then-c-le-COLON-via-else-c-le-COLON+then-c-ge-GAP}
 use Rattle.words_names.proofs.names.word_of_name.Goals as goal
 
@@ -17,9 +17,6 @@ returns-then-is_empty c =
       | then-is_empty-via-then-is_empty w ↦ no-letters c.args.name.now (eqb-true _ 0 (sym c.is_empty.ensures ∙ w.if-is_empty.true))
       | then-is_empty-via-else-is_empty+then-name-gt-NAME w ↦ many-letters c.args.name.now w.if-name-gt-NAME.true
     ]
-
-pub loop-b-init : goal.loop-b-init
-loop-b-init c = record { inside = omega arith; below = omega arith; good = refl; owed = refl }
 
 pub returns-then-c-le-COLON : goal.returns-then-c-le-COLON
 returns-then-c-le-COLON c =
@@ -38,19 +35,6 @@ overflow_mul-w c = omega (arith, power-low c.loop-b.w c.loop-b.b-index 9 (omega 
 
 pub overflow_add-w : goal.overflow_add-w
 overflow_add-w c = omega (arith, power-low c.loop-b.w c.loop-b.b-index 9 (omega arith) c.loop-b.invariant.below)
-
-pub loop-b-preserved : goal.loop-b-preserved
-loop-b-preserved c =
-    let l = c.loop-b in
-    let s = c.args.name.now in
-    let x : c.from.result ≡ c.code_of-c.result = c.from.ensures in
-    let one = letter-good (get_or s l.b-index 0) _ c.code_of-c.ensures c.if-c-le-COLON.false c.if-c-ge-GAP.false in
-    record {
-      inside = omega arith;
-      below = rw x (power-more l.w l.b-index c.code_of-c.result l.invariant.below (omega arith));
-      good = passes is_name_byte s l.b-index c.loop-b-test.true one ∙ l.invariant.good;
-      owed = rw x (pack-more s l.w l.b-index c.code_of-c.result c.loop-b-test.true c.code_of-c.ensures) ∙ l.invariant.owed;
-    }
 
 pub overflow_mul-result : goal.overflow_mul-result
 overflow_mul-result c =
