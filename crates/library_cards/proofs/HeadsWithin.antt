@@ -1,14 +1,14 @@
 -- The words ahead of a card's text lie in the image. Assumes nothing.
 --   heads_found    they are one more than the place of the first word with bit 59
 --   heads-within   and lie in the image
-use Rattle.std.specs.Prelude.{None, Some, cond, option_map, if◌then◌else◌}
+use Rattle.std.specs.Prelude.{Some, cond, option_map, if◌then◌else◌}
 use Rattle.std.specs.List.{position_from}
 use mathlib.Core.Bool.{Bool, true, false}
-use mathlib.Core.Option.{none, some}
+use mathlib.Core.Option.{some}
 use native.Mathlib.Numerals.{add-one}
 use Prim.Native.Nat.{ℕ, suc, ◌+◌, ◌-◌, ◌≤◌, ◌<◌}
 use native.Mathlib.Omega.{arith}
-use mathlib.Core.Path.{◌≡◌, refl, sym, ap, ◌∙◌}
+use mathlib.Core.Path.{◌≡◌, refl, ap, ◌∙◌}
 use mathlib.Core.List.{List, [], ◌∷◌}
 use lib.ListN.{length, drop, length-drop}
 use Rattle.words.specs.Base.{place_from}

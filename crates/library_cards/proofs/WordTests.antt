@@ -2,7 +2,6 @@
 --   number-..      a byte's number
 --   bytes-..       a byte, then those after it
 --   full-.., last-..   a further history word
---   further-..     the further history words from a place on
 --   words-..       a card with so many words ahead of its text
 --   single-..      one whose first word has bit 59
 --   text-..        where the text starts of a card that passes row 5
@@ -12,20 +11,18 @@ use native.Mathlib.Omega.{arith}
 use native.Mathlib.Numerals.{add-one}
 use mathlib.Core.Path.{◌≡◌, refl, sym, ap, ◌∙◌, subst}
 use mathlib.Core.Bool.{Bool, true, false, ◌&&◌, not}
-use mathlib.Core.List.{List, [], ◌∷◌, ◌++◌}
+use mathlib.Core.List.{List, [], ◌∷◌}
 use mathlib.Core.Option.{some}
 use lib.Dec.{eqb, leb}
-use lib.ListN.{length, get_or, take, drop, length-drop, drop_of_length-le}
+use lib.ListN.{length, get_or, take, drop, length-drop}
 use lib.Seq.{drop-cons, get_or-drop}
 use borrow.Author.Tests.{eq-eqb, ne_eqb, le-leb, lt-leb, leb-true}
-use Rattle.words.proofs.TestParts.{and-true, and-false}
+use Rattle.words.proofs.TestParts.{and-true}
 use Rattle.words.specs.Base.{all_of, is_nil, place_from}
-use Rattle.library.specs.Library.{purged}
 use Rattle.library.specs.Check.{is_last_word, used, ok_byte}
 use Rattle.library_tables.specs.Found.{found, Sized}
 use Rattle.library_cards.specs.Found.{text_if, text_found}
 use Rattle.library.specs.WordForm.{ok_number, ok_numbers, bytes_in, ok_full, ok_last, ok_further, first_tests, word_tests}
-use Rattle.library.proofs.EntryNames.{name-at}
 use Rattle.library.proofs.FirstPlace.{place_here}
 use Rattle.library_tables.proofs.FirstFault.{found_some, found_none}
 use Rattle.library.proofs.FormByWord.{and_left, used-none, used-some, used-more, form-words}
@@ -38,13 +35,6 @@ module _ (directory : List ℕ) where
   module _ (n b : ℕ) where
     pub number-low : b % 2 ^ 16 < n → ok_number directory n b ≡ false
     number-low h = rw (lt-leb n (b % 2 ^ 16) h)
-
-    pub number-beyond : length directory < b % 2 ^ 16 → ok_number directory n b ≡ false
-    number-beyond h = rw (lt-leb (b % 2 ^ 16) (length directory) h) (and-false (leb n (b % 2 ^ 16)))
-
-    pub number_is : 0 < n → n ≤ b % 2 ^ 16 → b % 2 ^ 16 ≤ length directory → ok_number directory n b ≡ not (eqb (get_or directory (b % 2 ^ 16 - 1) 0) purged)
-    number_is p h k =
-        rw (le-leb n (b % 2 ^ 16) h, le-leb (b % 2 ^ 16) (length directory) k) (ap (λ (x : ℕ). not (eqb x purged)) (name-at directory (b % 2 ^ 16) (omega arith)))
 
     pub number-above : 0 < n → ok_number directory n b ≡ true → 0 < b % 2 ^ 16
     number-above h e = let z : n ≤ b % 2 ^ 16 = leb-true n (b % 2 ^ 16) (and_left (leb n (b % 2 ^ 16)) (ok_byte directory b) e) in omega arith
@@ -128,28 +118,6 @@ module _ (directory : List ℕ) where
               let z : 0 < a % 2 ^ 16 = number-above n a h f in
               ap (λ (l : List ℕ). not (is_nil l) && ok_numbers directory n l) (used-is n a xs (λ q. omega arith)) ∙ bytes_on n a (used xs) f
 
-  -- further history words of which one is the last
-  module _ (n last : ℕ) where
-    pub further-last : (full : List ℕ) (i : ℕ) → length full ≤ i → ok_further directory n (drop i full ++ (last ∷ [])) ≡ ok_last directory n last
-    further-last full i h = ap (λ (l : List ℕ). ok_further directory n (l ++ (last ∷ []))) (drop_of_length-le full h)
-
-    further-is : (w : ℕ) (l : List ℕ) → ok_further directory n (w ∷ l ++ (last ∷ [])) ≡ (ok_full directory n w && ok_further directory (w % 2 ^ 16) (l ++ (last ∷ [])))
-    further-is w [] = refl
-    further-is w (x ∷ l) = refl
-
-    module _ (full : List ℕ) (i : ℕ) (h : i < length full) where
-      further-here : ok_further directory n (drop i full ++ (last ∷ []))
-          ≡ (ok_full directory n (get_or full i 0) && ok_further directory (get_or full i 0 % 2 ^ 16) (drop (suc i) full ++ (last ∷ [])))
-      further-here = ap (λ (l : List ℕ). ok_further directory n (l ++ (last ∷ []))) (drop-cons full i 0 h) ∙ further-is (get_or full i 0) (drop (suc i) full)
-
-      pub further-fail : ok_full directory n (get_or full i 0) ≡ false → ok_further directory n (drop i full ++ (last ∷ [])) ≡ false
-      further-fail e = further-here ∙ ap (λ (t : Bool). t && ok_further directory (get_or full i 0 % 2 ^ 16) (drop (suc i) full ++ (last ∷ []))) e
-
-      pub further-on : ok_full directory n (get_or full i 0) ≡ true → ok_further directory n (drop i full ++ (last ∷ [])) ≡ ok_further directory (get_or full i 0 % 2 ^ 16) (drop (i + 1) full ++ (last ∷ []))
-      further-on e =
-          further-here ∙ ap (λ (t : Bool). t && ok_further directory (get_or full i 0 % 2 ^ 16) (drop (suc i) full ++ (last ∷ []))) e
-          ∙ ap (λ (k : ℕ). ok_further directory (get_or full i 0 % 2 ^ 16) (drop k full ++ (last ∷ []))) (sym (add-one i))
-
 -- the tests of a card's words, in terms of the image
 module _ (directory ws : List ℕ) (at k : ℕ) (some : 0 < k) (inside : at + k ≤ length ws) where
   abbrev w : ℕ
@@ -177,21 +145,12 @@ module _ (directory ws : List ℕ) (at k : ℕ) (some : 0 < k) (inside : at + k 
       ∙ ap (λ (n : ℕ). tests_of w (n - k) (drop 1 (take k (drop at ws)))) (length-drop at ws)
       ∙ ap (tests_of w (length ws - at - k)) further_same
 
-  pub words-many : 22 < k → all_of (word_tests directory (drop at ws) k) ≡ false
-  words-many h = words_are ∙ ap (λ (t : Bool). t && (leb (w / 2 ^ 36 % 2 ^ 18) (length ws - at - k) && (all_of (first_tests directory w) && (ok_further directory (w % 2 ^ 16) further && true)))) (lt-leb k 22 h)
-
   module _ (few : k ≤ 22) where
-    pub words-past : length ws - at - k < w / 2 ^ 36 % 2 ^ 18 → all_of (word_tests directory (drop at ws) k) ≡ false
-    words-past h = words_are ∙ rw (le-leb k 22 few, lt-leb (w / 2 ^ 36 % 2 ^ 18) (length ws - at - k) h)
-
     module _ (fits : w / 2 ^ 36 % 2 ^ 18 ≤ length ws - at - k) where
       rest-are : all_of (word_tests directory (drop at ws) k) ≡ (all_of (first_tests directory w) && (ok_further directory (w % 2 ^ 16) further && true))
       rest-are =
           words_are ∙ ap (λ (t : Bool). t && (leb (w / 2 ^ 36 % 2 ^ 18) (length ws - at - k) && (all_of (first_tests directory w) && (ok_further directory (w % 2 ^ 16) further && true)))) (le-leb k 22 few)
           ∙ ap (λ (t : Bool). t && (all_of (first_tests directory w) && (ok_further directory (w % 2 ^ 16) further && true))) (le-leb (w / 2 ^ 36 % 2 ^ 18) (length ws - at - k) fits)
-
-      pub words-first : all_of (first_tests directory w) ≡ false → all_of (word_tests directory (drop at ws) k) ≡ false
-      words-first e = rest-are ∙ ap (λ (t : Bool). t && (ok_further directory (w % 2 ^ 16) further && true)) e
 
       pub words-further : all_of (first_tests directory w) ≡ true → all_of (word_tests directory (drop at ws) k) ≡ ok_further directory (w % 2 ^ 16) further
       words-further e = rest-are ∙ ap (λ (t : Bool). t && (ok_further directory (w % 2 ^ 16) further && true)) e ∙ and-true (ok_further directory (w % 2 ^ 16) further)
@@ -200,19 +159,6 @@ module _ (directory ws : List ℕ) (at k : ℕ) (some : 0 < k) (inside : at + k 
 module _ (directory ws : List ℕ) (at : ℕ) (inside : at < length ws) where
   abbrev v : ℕ
   v = get_or ws at 0
-
-  one_inside : at + 1 ≤ length ws
-  one_inside = omega arith
-
-  pub single-past : length ws - at - 1 < v / 2 ^ 36 % 2 ^ 18 → all_of (word_tests directory (drop at ws) 1) ≡ false
-  single-past h = words-past directory ws at 1 (omega arith) one_inside (omega arith) h
-
-  pub single-first : v / 2 ^ 36 % 2 ^ 18 ≤ length ws - at - 1 → all_of (word_tests directory (drop at ws) 1) ≡ all_of (first_tests directory v)
-  single-first h =
-      let n : at + 1 - (at + 1) ≡ 0 = omega arith in
-      rest-are directory ws at 1 (omega arith) one_inside (omega arith) h
-      ∙ ap (λ (m : ℕ). all_of (first_tests directory v) && (ok_further directory (v % 2 ^ 16) (take m (drop (at + 1) ws)) && true)) n
-      ∙ and-true (all_of (first_tests directory v))
 
   pub single-place : 2 ^ 59 ≤ v → found (place_from is_last_word 1 (drop at ws)) ≡ Some 1
   single-place h = ap found (place_here is_last_word 1 ws at inside (le-leb (2 ^ 59) v h))

@@ -202,13 +202,22 @@ fn cards_from(image: &[u64], directory: &[u64], from: usize) -> Result<(), Refus
     let mut n = 0;
     while at < image.len() {
         if n == MOST_CARDS {
-            return Err(Refusal { fault: Fault::Form, place: at });
+            return Err(Refusal {
+                fault: Fault::Form,
+                place: at,
+            });
         }
         let Some(text) = text_of(image, directory, at) else {
-            return Err(Refusal { fault: Fault::Form, place: at });
+            return Err(Refusal {
+                fault: Fault::Form,
+                place: at,
+            });
         };
         let Some(end) = end_of(image, at, text) else {
-            return Err(Refusal { fault: Fault::Text, place: at });
+            return Err(Refusal {
+                fault: Fault::Text,
+                place: at,
+            });
         };
         at = end;
         n += 1;

@@ -4,8 +4,6 @@ pub mod DeckLineKind
 pub mod DeckTitles
 -- The decks of an image, one after another, and the rows of the table that stand for them.
 pub mod DeckRows
--- The four words of a row written one after another, and what stands after them stays.
-pub mod RowWords
 -- Where the cards of YANK$$$ or of a deck end, the next deck card stands.
 pub mod CardsEnd
 -- Where the cards of YANK$$$ and the decks stand in the words of a sound library.

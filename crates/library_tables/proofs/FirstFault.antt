@@ -1,20 +1,19 @@
 -- A row's fault is the answer, or what comes after the row. Assumes nothing.
 --   found_none, found_some   an answer read back
 --   position-found, large_found   a search for a place is that of the definitions
---   refused-at, refused-on   a row's fault, and what comes after a row without one
+--   refused-on               a row that does not refuse has no fault
 use Prim.Native.Nat.{ℕ, suc, ◌+◌}
 use native.Mathlib.Numerals.{add-one}
-use mathlib.Core.Path.{◌≡◌, refl, sym, ap, ◌∙◌}
+use mathlib.Core.Path.{◌≡◌, refl, ap, ◌∙◌}
 use mathlib.Core.Bool.{Bool, true, false}
 use mathlib.Core.List.{List, [], ◌∷◌}
 use mathlib.Core.Option.{Option, none, some}
-use Rattle.std.specs.Prelude.{None, Some, Result, Ok, Err, cond, if◌then◌else◌}
+use Rattle.std.specs.Prelude.{None, Some, Ok, cond, if◌then◌else◌}
 use Rattle.std.specs.List.{position_from}
 use Rattle.words.specs.Base.{place_from}
 use Rattle.library.specs.declared.Fault.{Fault}
-use Rattle.library.specs.declared.Refusal.{Refusal}
 use Rattle.library.specs.Refused.{refused_at}
-use Rattle.library_tables.specs.Found.{found, refused_by, not_word, large}
+use Rattle.library_tables.specs.Found.{found, not_word, large}
 use borrow.Author.Tests.{le-ltb, lt-ltb, le-leb, lt-leb}
 use native.Mathlib.Omega.{arith}
 
@@ -41,14 +40,6 @@ large-word w = grind (arith, le-ltb, lt-ltb, le-leb, lt-leb)
 pub large_found : (ws : List ℕ) → position_from large 0 ws ≡ found (place_from not_word 0 ws)
 large_found ws = position-found large not_word large-word 0 ws
 
-pub refused-at : (f : Fault) (o : Option ℕ) (r : Result (Unit {0}) Refusal) (e : Refusal) → refused_at f (found o) ≡ Err e → Err e ≡ refused_by f o r
-refused-at f none r e q = absurd cc
-refused-at f (some p) r e q = sym q
-
 pub refused-on : (f : Fault) (o : Option ℕ) → refused_at f (found o) ≡ Ok tt → o ≡ none
 refused-on f none q = refl
 refused-on f (some p) q = absurd cc
-
-pub refused-last : (f : Fault) (o : Option ℕ) → refused_at f (found o) ≡ refused_by f o (Ok tt)
-refused-last f none = refl
-refused-last f (some p) = refl

@@ -1,41 +1,18 @@
 -- What rows 1 and 3 say where they pass, and row 3 as the tests of word 2 and the tables' end. Assumes nothing.
-use Rattle.std.specs.Prelude.{None, Some, if◌then◌else◌}
-use Prim.Native.Nat.{ℕ, zero, suc, ◌^◌, ◌≤◌, ◌<◌}
+use Rattle.std.specs.Prelude.{if◌then◌else◌}
+use Prim.Native.Nat.{ℕ, zero, suc, ◌^◌, ◌<◌}
 use native.Mathlib.Omega.{arith}
-use mathlib.Core.Path.{◌≡◌, refl, ap, ◌∙◌}
-use mathlib.Core.Bool.{Bool, true, false, ◌||◌, not}
-use mathlib.Core.List.{List, [], ◌∷◌, ◌++◌}
+use mathlib.Core.Path.{◌≡◌, refl}
+use mathlib.Core.Bool.{Bool, true, false, not}
+use mathlib.Core.List.{List, [], ◌∷◌}
 use mathlib.Core.Option.{none, some}
 use lib.Dec.{ltb}
 use lib.ListN.{length, get_or}
-use borrow.Author.Tests.{lt-ltb, le-ltb, ltb-true, ltb-false, eqb-false}
+use borrow.Author.Tests.{ltb-true, ltb-false, eqb-false}
 use Rattle.library.proofs.TableRows.{first-none}
 use Rattle.words.specs.Base.{any_of, is_word, place_from}
 use Rattle.library.specs.Check.{first_of, fault_if, directory_count, deck_count, cards_place, table_faults, row1, row3}
-use Rattle.library_tables.specs.Found.{found, not_word, count_faults, Sized, Tabled}
-
-pub any_last : (bs : List Bool) (c : Bool) → any_of (bs ++ (c ∷ [])) ≡ (any_of bs || c)
-any_last [] true = refl
-any_last [] false = refl
-any_last (true ∷ bs) c = refl
-any_last (false ∷ bs) c = any_last bs c
-
-module _ (ws : List ℕ) where
-  row3-is : row3 ws ≡ fault_if (any_of (count_faults (get_or ws 1 0)) || ltb (length ws) (cards_place ws)) 1
-  row3-is = ap (λ (b : Bool). fault_if b 1) (any_last (count_faults (get_or ws 1 0)) (ltb (length ws) (cards_place ws)))
-
-  pub counts-wrong : any_of (count_faults (get_or ws 1 0)) ≡ true → found (row3 ws) ≡ Some 1
-  counts-wrong e = ap found (row3-is ∙ ap (λ (b : Bool). fault_if (b || ltb (length ws) (cards_place ws)) 1) e)
-
-  module _ (e : any_of (count_faults (get_or ws 1 0)) ≡ false) where
-    past : (b : Bool) → ltb (length ws) (cards_place ws) ≡ b → row3 ws ≡ fault_if b 1
-    past b f = row3-is ∙ ap (λ (d : Bool). fault_if (d || ltb (length ws) (cards_place ws)) 1) e ∙ ap (λ (d : Bool). fault_if d 1) f
-
-    pub tables-past : length ws < cards_place ws → found (row3 ws) ≡ Some 1
-    tables-past h = ap found (past true (lt-ltb _ _ h))
-
-    pub tables-right : cards_place ws ≤ length ws → found (row3 ws) ≡ None
-    tables-right h = ap found (past false (le-ltb _ _ h))
+use Rattle.library_tables.specs.Found.{not_word, Sized, Tabled}
 
 -- tests in a row of which none holds, one by one
 abbrev pub Fail : List Bool → Type 0

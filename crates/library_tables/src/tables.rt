@@ -169,6 +169,5 @@ pub(crate) fn name_fault(image: &[u64]) -> Option<usize>
     let first = DIRECTORY + entries_of(image);
     let cards = first + decks_of(image);
     let directory = &image[DIRECTORY..first];
-    entries_fault(directory)
-        .or_else(|| deck_words_fault(directory, &image[first..cards], first))
+    entries_fault(directory).or_else(|| deck_words_fault(directory, &image[first..cards], first))
 }

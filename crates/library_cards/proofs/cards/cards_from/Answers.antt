@@ -3,7 +3,6 @@ use Prim.Native.Nat.{ℕ, ◌-◌}
 use mathlib.Core.Path.{◌≡◌, refl, sym, ◌∙◌}
 use native.Mathlib.Omega.{arith}
 use Rattle.library_cards.proofs.CardsLeft.{begun, ended, turn_many, turn-form, turn-text, turn_on, cards-end}
-use borrow.Author.Rules.{rules}
 use Rattle.library_cards.proofs.cards.cards_from.Goals as goal
 
 none_is : (o : Option ℕ) → ((p : ℕ) → o ≡ Some p → ⊥) → o ≡ None

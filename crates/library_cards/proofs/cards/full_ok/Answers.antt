@@ -14,9 +14,6 @@ pub returns-then-not-number_ok : goal.returns-then-not-number_ok
 returns-then-not-number_ok c =
     let a = c.args in record { value = sym (full-bytes a.directory.now a.least a.w c.if-w-ne0.false ∙ bytes-fail a.directory.now a.least (a.w / 2 ^ 36 % 2 ^ 18) (a.w / 2 ^ 18 % 2 ^ 18 ∷ a.w % 2 ^ 18 ∷ []) (sym c.number_ok.ensures.value ∙ c.if-not-number_ok.true)); nonzero = λ e. absurd (never e) }
 
-pub number_ok-requires-2 : goal.number_ok-requires-2
-number_ok-requires-2 c = c.number_ok.ensures.nonzero c.if-not-number_ok.false
-
 pub returns-then-not-number_ok-2 : goal.returns-then-not-number_ok-2
 returns-then-not-number_ok-2 c =
     let a = c.args in record {
@@ -25,9 +22,6 @@ returns-then-not-number_ok-2 c =
           ∙ bytes-fail a.directory.now (a.w / 2 ^ 36 % 2 ^ 18 % 2 ^ 16) (a.w / 2 ^ 18 % 2 ^ 18) (a.w % 2 ^ 18 ∷ []) (sym c.number_ok-2.ensures.value ∙ c.if-not-number_ok-2.true));
       nonzero = λ e. absurd (never e);
     }
-
-pub number_ok-requires-3 : goal.number_ok-requires-3
-number_ok-requires-3 c = c.number_ok-2.ensures.nonzero c.if-not-number_ok-2.false
 
 pub returns : goal.returns
 returns c =

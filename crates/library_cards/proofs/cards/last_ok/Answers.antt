@@ -23,9 +23,6 @@ returns-then-b-eq0 c =
     sym (last_on a.directory.now a.least a.w c.if-w-ne-LAST_ALONE.false (search rules) (sym c.number_ok.ensures.value ∙ first)
     ∙ used-gap a.directory.now (a.w / 2 ^ 36 % 2 ^ 18 % 2 ^ 16) (a.w / 2 ^ 18 % 2 ^ 18) (a.w % 2 ^ 18) (c.number_ok.ensures.nonzero first) c.if-b-eq0.true)
 
-pub number_ok-requires-2 : goal.number_ok-requires-2
-number_ok-requires-2 c = c.number_ok.ensures.nonzero c.if-not-number_ok.false
-
 pub returns-then-not-number_ok-2 : goal.returns-then-not-number_ok-2
 returns-then-not-number_ok-2 c =
     let a = c.args in
@@ -38,9 +35,6 @@ returns-then-c-eq0 c =
     sym (last_on a.directory.now a.least a.w c.if-w-ne-LAST_ALONE.false (search rules) (sym c.number_ok.ensures.value ∙ c.if-not-number_ok.false)
     ∙ used-on a.directory.now (a.w / 2 ^ 36 % 2 ^ 18 % 2 ^ 16) (a.w / 2 ^ 18 % 2 ^ 18) (a.w % 2 ^ 18 ∷ []) c.if-b-eq0.false (sym c.number_ok-2.ensures.value ∙ c.if-not-number_ok-2.false)
     ∙ used-end a.directory.now (a.w / 2 ^ 18 % 2 ^ 18 % 2 ^ 16) (a.w % 2 ^ 18) c.if-c-eq0.true)
-
-pub number_ok-requires-3 : goal.number_ok-requires-3
-number_ok-requires-3 c = c.number_ok-2.ensures.nonzero c.if-not-number_ok-2.false
 
 pub returns : goal.returns
 returns c =

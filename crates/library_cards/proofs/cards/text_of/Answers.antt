@@ -1,6 +1,5 @@
 -- A card that passes row 5 has its text past the words up to bit 59; where no word has it, none passes. Assumes nothing.
 use mathlib.Core.Path.{sym, ◌∙◌}
-use native.Mathlib.Omega.{arith}
 use Rattle.library_cards.proofs.HeadsWithin.{heads-within}
 use Rattle.library_cards.proofs.WordTests.{single-place, text-none, text-there, text-not}
 use borrow.Author.Rules.{rules}

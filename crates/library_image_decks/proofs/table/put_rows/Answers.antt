@@ -5,27 +5,13 @@ use Rattle.library_image_decks.proofs.table.put_rows.Goals as goal
 pub loop-at-init : goal.loop-at-init
 loop-at-init c = put-start c.args.image.now c.args.table.now c.requires _ _ c.cards_place.ensures c.deck_end-at.ensures.value
 
-pub shape_of-table-then-n-eq-TABLE : goal.shape_of-table-then-n-eq-TABLE
-shape_of-table-then-n-eq-TABLE c = c.loop-at.invariant.same
-
 pub returns-then-n-eq-TABLE : goal.returns-then-n-eq-TABLE
 returns-then-n-eq-TABLE c = let l = c.loop-at in record { upper_bound = (put_full c.args.image.now c.args.table.now c.requires l.table l.at l.n l.invariant c.if-n-eq-TABLE.true).0; value = (put_full c.args.image.now c.args.table.now c.requires l.table l.at l.n l.invariant c.if-n-eq-TABLE.true).1.0; table_after = (put_full c.args.image.now c.args.table.now c.requires l.table l.at l.n l.invariant c.if-n-eq-TABLE.true).1.1 }
-
-pub put_row-requires : goal.put_row-requires
-put_row-requires c =
-    let l = c.loop-at in
-    put-room c.args.image.now c.args.table.now c.requires l.table l.at l.n l.invariant c.loop-at-test.true _ c.see-c.ensures.value _ c.title_of.ensures _ c.deck_end-end.ensures.value c.if-n-eq-TABLE.false
-
-pub loop-at-smaller : goal.loop-at-smaller
-loop-at-smaller c = let s = c.see-c.ensures.text_le_next in let e = c.deck_end-end.ensures.upper_bound in omega (arith, c.loop-at-test.true, s.0, s.1.0, s.1.1 c.loop-at-test.true, e.1 s.1.0)
 
 pub loop-at-preserved : goal.loop-at-preserved
 loop-at-preserved c =
     let l = c.loop-at in
     put-more c.args.image.now c.args.table.now c.requires l.table l.at l.n l.invariant c.loop-at-test.true _ c.see-c.ensures.value _ c.title_of.ensures _ c.deck_end-end.ensures.value c.if-n-eq-TABLE.false _ c.put_row.auto.table c.put_row.ensures.table_after c.put_row.ensures.table_unchanged
-
-pub shape_of-table : goal.shape_of-table
-shape_of-table c = c.loop-at.invariant.same
 
 pub returns : goal.returns
 returns c = let l = c.loop-at in record { upper_bound = (put_all c.args.image.now c.args.table.now c.requires l.table l.at l.n l.invariant c.loop-at-test.false).0; value = (put_all c.args.image.now c.args.table.now c.requires l.table l.at l.n l.invariant c.loop-at-test.false).1.0; table_after = (put_all c.args.image.now c.args.table.now c.requires l.table l.at l.n l.invariant c.loop-at-test.false).1.1 }

@@ -12,11 +12,5 @@ use Rattle.library_image_decks.proofs.titles.deck_at.Goals as goal
 pub returns-then-not-star_at : goal.returns-then-not-star_at
 returns-then-not-star_at c = let a = c.args in deck-starless a.image.now a.from a.to (sym c.star_at.ensures ∙ c.if-not-star_at.true)
 
-pub slice_bounds-line-end : goal.slice_bounds-line-end
-slice_bounds-line-end c = c.line_of-n.ensures.upper_bound
-
-pub slice_bounds-deck_line-end : goal.slice_bounds-deck_line-end
-slice_bounds-deck_line-end c = sym (length-take-le c.line_of-n.result c.line_of-n.new.line c.line_of-n.ensures.upper_bound)
-
 pub returns : goal.returns
 returns c = let e = c.line_of-n.ensures in c.deck_line.ensures ∙ ap (λ (l : List ℕ). deck_line_of (deck_line l)) (line_taken _ _ _ _ _ _ e.value e.line_after)

@@ -6,16 +6,10 @@ use mathlib.Core.Path.{refl, sym, ap, ◌∙◌}
 use borrow.Author.Rules.{rules}
 use Rattle.library_image_decks.proofs.titles.deck_end.Goals as goal
 
-pub loop-at-init : goal.loop-at-init
-loop-at-init c = (search rules, refl)
-
 pub returns-then-is_some : goal.returns-then-is_some
 returns-then-is_some c = let l = c.loop-at in let a = c.args in
     let s = c.see-c.ensures in
     let t = sym (ap (λ x. is_title (title_in a.image.now x)) s.value) ∙ sym (ap is_title c.title_of.ensures) ∙ sym (title-some c.title_of.result) ∙ sym c.is_some.ensures ∙ c.if-is_some.true in record { upper_bound = (search rules, λ h. l.invariant.0); value = sym (l.invariant.1 ∙ end-here a.image.now l.at c.loop-at-test.true t) }
-
-pub loop-at-smaller : goal.loop-at-smaller
-loop-at-smaller c = omega (arith, c.loop-at-test.true, c.see-c.ensures.text_le_next.0, c.see-c.ensures.text_le_next.1.0, c.see-c.ensures.text_le_next.1.1 c.loop-at-test.true)
 
 pub loop-at-preserved : goal.loop-at-preserved
 loop-at-preserved c = let l = c.loop-at in let a = c.args in

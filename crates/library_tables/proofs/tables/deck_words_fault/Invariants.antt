@@ -7,4 +7,3 @@ use Rattle.library_tables.proofs.tables.deck_words_fault.Given as goal
 
 abbrev pub invariant-loop-i : goal.invariant-loop-i
 invariant-loop-i l = first_bad (ok_deck_word l.directory) [] l.first l.decks ≡ bad_from (ok_deck_word l.directory) l.first l.decks l.i
-

@@ -7,4 +7,3 @@ use Rattle.library_tables.proofs.tables.entries_fault.Given as goal
 
 abbrev pub invariant-loop-i : goal.invariant-loop-i
 invariant-loop-i l = first_bad ok_entry [] 2 l.directory ≡ bad_from ok_entry 2 l.directory l.i
-

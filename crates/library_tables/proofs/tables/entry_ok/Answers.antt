@@ -1,26 +1,10 @@
 -- Each way out is one of the tests of a directory word. Assumes nothing.
 use mathlib.Core.Path.{sym, ◌∙◌}
 use Rattle.words_lists.specs.Ahead.{ahead_of}
-use Rattle.library_tables.proofs.TableWords.{stands-ahead, entry-purged, entry-reserved, entry-twice, entry-name}
+use Rattle.library_tables.proofs.TableWords.{stands-ahead, entry-twice, entry-name}
 use lib.ListN.{get_or}
-use lib.Seq.{length-take-le}
 use borrow.Author.Rules.{rules}
 use Rattle.library_tables.proofs.tables.entry_ok.Goals as goal
-
-pub returns-then-w-eq-PURGED : goal.returns-then-w-eq-PURGED
-returns-then-w-eq-PURGED c =
-    let a = c.args in
-    sym (entry-purged (ahead_of a.at a.directory.now) _ c.if-w-eq-PURGED.true)
-
-pub returns-then-w-reserved_word : goal.returns-then-w-reserved_word
-returns-then-w-reserved_word c =
-    let a = c.args in
-    sym (entry-reserved (ahead_of a.at a.directory.now) _ c.if-w-eq-PURGED.false (c.if-w-reserved_word.true ∙ c.reserved_word.ensures))
-
-pub slice_bounds-stands-end : goal.slice_bounds-stands-end
-slice_bounds-stands-end c =
-    let a = c.args in
-    sym (length-take-le a.at a.directory.now (search rules))
 
 pub returns-then-stands : goal.returns-then-stands
 returns-then-stands c =
