@@ -147,8 +147,12 @@ pub fn answer(
         Op::Check => check(head, words),
         Op::Run => run(head, words, bytes, library),
         Op::Compile => compile(head, words, file),
-        Op::Pack => packing(head, bytes, file, words_packing::pack_bytes),
-        Op::Unpack => packing(head, bytes, file, words_packing::unpack_bytes),
+        Op::Pack => packing(head, bytes, file, |source, room| {
+            words_packing::pack_bytes(source, room)
+        }),
+        Op::Unpack => packing(head, bytes, file, |source, room| {
+            words_packing::unpack_bytes(source, room)
+        }),
         Op::Compress => compress(head, bytes),
         Op::Expand => expand(head, words),
         Op::Line => line(head, bytes),
