@@ -1,2 +1,2 @@
--- An entry of the second whose name the first has, and its number there.
+-- An entry has a number just where the directory has its name.
 pub mod CommonName
