@@ -6,7 +6,7 @@ use mathlib.Core.Path.{◌≡◌, refl, sym, ap, ◌∙◌}
 use mathlib.Core.Bool.{Bool, true, false, ◌&&◌, ◌||◌, not}
 use mathlib.Core.List.{List, [], ◌∷◌}
 use borrow.Author.Tests.{ne_eqb, le-ltb}
-use lib.Dec.{T, eqb, eqb→eq, ltb, ltb→lt, lt→ltb, leb, leb→le}
+use lib.Dec.{T, eqb, eqb→eq, ltb, ltb→lt, lt→ltb, leb}
 use lib.ListN.{get_or}
 use Rattle.words.specs.Base.{all}
 use Rattle.words.specs.Display.{chart, code_from, code_of, in_chart, letter, blank}
@@ -44,9 +44,6 @@ abbrev pub counts : (ℕ → ℕ) → ℕ → ℕ → ℕ → Bool
 counts f first to x = leb first x && eqb (x - first + to) (f x)
 
 module _ (f : ℕ → ℕ) (first to x : ℕ) (t : T (counts f first to x)) where
-  pub counts-from : first ≤ x
-  counts-from = leb→le first x (and_left (leb first x) (eqb (x - first + to) (f x)) t)
-
   pub counts-is : x - first + to ≡ f x
   counts-is = eqb→eq (x - first + to) (f x) (and_right (leb first x) (eqb (x - first + to) (f x)) t)
 

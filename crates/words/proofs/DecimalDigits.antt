@@ -1,16 +1,15 @@
 -- Decimal numbers read and written, one digit at a time. Assumes nothing.
 use Rattle.std.specs.Prelude.{if◌then◌else◌}
-use Prim.Native.Nat.{ℕ, zero, suc, ◌+◌, ◌-◌, ◌*◌, ◌/◌, ◌%◌, ◌^◌, ◌≤◌, ◌<◌}
+use Prim.Native.Nat.{ℕ, zero, suc, ◌+◌, ◌-◌, ◌*◌, ◌^◌, ◌≤◌, ◌<◌}
 use native.Mathlib.Omega.{arith}
 use native.Mathlib.Numerals.{add-one}
-use native.Mathlib.Nat.{pow-suc, pow-le-pow_right}
+use native.Mathlib.Nat.{pow-suc}
 use mathlib.Core.Path.{◌≡◌, refl, sym, ap, ap₂, ◌∙◌}
 use mathlib.Core.Bool.{true, false, ◌&&◌}
-use mathlib.Core.List.{List, ◌∷◌, ◌++◌, append-nil}
-use borrow.Author.Tests.{lt-ltb, le-ltb, le-leb, lt-leb}
-use lib.Dec.{ltb, lit<}
-use lib.ListN.{length, get_or, take, drop, set, replicate, drop_of_length-le}
-use lib.Seq.{drop-cons, set_split, drop_at, length-take-le}
+use mathlib.Core.List.{List, ◌++◌, append-nil}
+use borrow.Author.Tests.{lt-ltb, le-leb, lt-leb}
+use lib.Dec.{ltb}
+use lib.ListN.{length, take, drop, replicate, drop_of_length-le}
 use Rattle.words.specs.Base.{all}
 use Rattle.words.specs.Display.{blank}
 use Rattle.words.specs.Names.{is_digit, decimal, is_number, number_read, digits, numeral, right_justified}
@@ -26,17 +25,11 @@ digit-high b h = rw (lt-leb b 57 h, le-leb 48 b (omega arith))
 pub digit-good : (b : ℕ) → 48 ≤ b → b ≤ 57 → is_digit b ≡ true
 digit-good b h l = rw (le-leb 48 b h, le-leb b 57 l)
 
-pub decimal-more : (ds : List ℕ) (n i d : ℕ) → i < length ds → d ≡ get_or ds i 0 - 48 → decimal (n * 10 + d) (drop (i + 1) ds) ≡ decimal n (drop i ds)
-decimal-more ds n i d h e = rw (add-one, drop-cons ds i 0 h, e)
-
 pub decimal-end : (ds : List ℕ) (n i : ℕ) → length ds ≤ i → decimal n (drop i ds) ≡ n
 decimal-end ds n i h = rw (drop_of_length-le ds h)
 
 pub below_more : (n i d : ℕ) → n < 10 ^ i → d < 10 → n * 10 + d < 10 ^ (i + 1)
 below_more n i d h l = rw (add-one, pow-suc 10 i) (omega arith)
-
-pub below-low : (n i j : ℕ) → i ≤ j → n < 10 ^ i → n < 10 ^ j
-below-low n i j h l = omega (arith, pow-le-pow_right {n = 10} (lit< tt) h)
 
 -- n has the first i digits of ds
 pub record Reads (ds : List ℕ) (n i : ℕ) : Type 0 where
@@ -73,9 +66,6 @@ module _ (ds : List ℕ) (few : length ds ≤ 6) (good : all is_digit ds ≡ tru
       go (suc m) = rw (lt-ltb 0 (suc m) (omega arith))
 
 -- WRITTEN
-stored : (d : List ℕ) (i x : ℕ) → i < length d → drop i (set d i x) ≡ x ∷ drop (i + 1) d
-stored d i x h = rw (set_split d i x h, add-one) (drop_at (take i d) (x ∷ drop (suc i) d) i (length-take-le i d (omega arith)))
-
 -- the digits still to be put ahead of those that are put, from i + 1 on
 abbrev pub digits_read : List ℕ → ℕ → ℕ → List ℕ
 digits_read d m i = digits (i + 1) m (drop (i + 1) d)
@@ -83,24 +73,6 @@ digits_read d m i = digits (i + 1) m (drop (i + 1) d)
 pub digits-start : (n : ℕ) (d : List ℕ) → length d ≡ 20 → digits_read d n 19 ≡ numeral n
 unfolding numeral
 digits-start n d e = let out : length d ≤ 20 = omega arith in ap (digits 20 n) (drop_of_length-le d out)
-
-module _ (d : List ℕ) (m i : ℕ) (room : i < length d) where
-  pub digits_more : 0 < i → 10 ≤ m → digits_read (set d i (48 + m % 10)) (m / 10) (i - 1) ≡ digits_read d m i
-  digits_more some h =
-      let e : i - 1 + 1 ≡ i = omega arith in
-      rw (e, stored d i (48 + m % 10) room, add-one, le-ltb m 10 h)
-
-  pub digits_last : m < 10 → drop i (set d i (48 + m)) ≡ digits_read d m i
-  digits_last h = rw (stored d i (48 + m) room, add-one, lt-ltb m 10 h)
-
-pub left-digits : (m i : ℕ) → 10 ≤ m → m < 10 ^ (i + 1) → 0 < i
-left-digits m zero h l = absurd (omega arith)
-left-digits m (suc i) h l = omega arith
-
-pub fewer_digits : (m i : ℕ) → 0 < i → m < 10 ^ (i + 1) → m / 10 < 10 ^ (i - 1 + 1)
-fewer_digits m i h l =
-    let e : i - 1 + 1 ≡ i = omega arith in
-    rw e (omega (arith, rw (add-one, pow-suc 10 i) at l))
 
 -- d holds the digits behind i, and m is the number that is left
 pub record Writes (n : ℕ) (d : List ℕ) (m i : ℕ) : Type 0 where

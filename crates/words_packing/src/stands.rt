@@ -41,14 +41,17 @@ impl Stands for u64 {
 impl Stands for u8 {
     ghost words = { words_of_eights };
 
+    #[tactic(auto, using(crate::proofs::PackAnswer::eights_count))]
     fn count(space: &[u8]) -> usize {
         space.len() / EIGHT
     }
 
+    #[tactic(auto, using(crate::proofs::PackAnswer::eights_count))]
     fn word(space: &[u8], i: usize) -> u64 {
         low(space, i * EIGHT)
     }
 
+    #[tactic(auto, using(crate::proofs::PackAnswer::eights_count))]
     fn put(space: &mut [u8], i: usize, w: u64) {
         let at = i * EIGHT;
         put_low(&mut space[at..at + EIGHT], w);

@@ -10,15 +10,6 @@ use Rattle.words_packing.proofs.PackAnswer.{eights_count}
 use Rattle.words_packing.proofs.EightsWords.{word-put, put-long}
 use Rattle.words_packing.proofs.stands.U8Stands.put.Goals as goal
 
-pub overflow_mul-at : goal.overflow_mul-at
-overflow_mul-at c = let bs = c.args.space.now in omega (arith, eights_count (length bs / 8) bs, c.requires)
-
-pub overflow_add-at : goal.overflow_add-at
-overflow_add-at c = let bs = c.args.space.now in omega (arith, eights_count (length bs / 8) bs, c.requires)
-
-pub slice_bounds-put_low-end : goal.slice_bounds-put_low-end
-slice_bounds-put_low-end c = let bs = c.args.space.now in omega (arith, eights_count (length bs / 8) bs, c.requires)
-
 pub returns : goal.returns
 returns c =
     let a = c.args in

@@ -7,12 +7,6 @@ use Rattle.words_packing.proofs.PackAnswer.{eights_count}
 use Rattle.words_packing.proofs.EightsWords.{word-of}
 use Rattle.words_packing.proofs.stands.U8Stands.word.Goals as goal
 
-pub overflow_mul-i : goal.overflow_mul-i
-overflow_mul-i c = let bs = c.args.space.now in omega (arith, eights_count (length bs / 8) bs, c.requires)
-
-pub low-requires : goal.low-requires
-low-requires c = let bs = c.args.space.now in omega (arith, eights_count (length bs / 8) bs, c.requires)
-
 pub returns : goal.returns
 returns c =
     let bs = c.args.space.now in
