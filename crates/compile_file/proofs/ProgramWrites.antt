@@ -7,25 +7,27 @@ use Prim.Native.Nat.{ℕ, ◌*◌, ◌/◌, ◌≤◌, ◌<◌}
 use native.Mathlib.Omega.{arith}
 use mathlib.Core.Path.{◌≡◌, refl, sym, ap, ◌∙◌, subst}
 use mathlib.Core.Bool.{true}
-use mathlib.Core.List.{List, ◌++◌}
+use mathlib.Core.List.{List, [], ◌++◌}
 use borrow.Author.Tests.{lt-ltb, le-ltb}
 use lib.ListN.{length, take, drop, length-append}
 use lib.Seq.{take_at}
 use Rattle.words.specs.Names.{numeral}
 use Rattle.words_packing.specs.Pack.{unpacked, unpacking, space_after, unpack_into, packing_number}
-use Rattle.words_packing.specs.declared.Packing.{Packing}
-use Rattle.words_packing.specs.declared.Packing.TheVariants.{Done as Unpacked, Length, Tail, Space as NoSpace}
+use Rattle.words_packing.specs.declared.PackingRefused.{PackingRefused}
 use Rattle.words_packing.proofs.PackAnswer.{accepted}
 use Rattle.words_packing.proofs.PackTrip.{unpacked-length}
 use Rattle.library.specs.Check.{Checking, good, bad, check, fault_number}
-use Rattle.library.specs.declared.Fault.{Fault}
+use Rattle.std.specs.Prelude.{Result, Ok, Err}
 use Rattle.compile_walk.specs.View.{view}
 use Rattle.compile_walk.specs.Walk.{Walk, walked, halted}
 use Rattle.compile_walk.specs.Steps.{WalkState, decks_of}
 use Rattle.compile.specs.Compile.{compile_view, Compiling, of_walk, of_library, compile_checked, compiling, compiled, compile_into, stop_number, compiled_number, refused_line, card_place, program_of, after_unpacking, program}
 use Rattle.compile_walk.specs.declared.Stop.{Stop}
-use Rattle.compile.specs.declared.Compiled.{Compiled}
-use Rattle.compile.specs.declared.Compiled.TheVariants.{Done, Library as OfLibrary, Refused}
+use Rattle.library.specs.declared.Refusal.{Refusal}
+use Rattle.compile_walk.specs.declared.Counts.{Counts}
+use Rattle.compile_walk.specs.declared.Halt.{Halt}
+use Rattle.compile.specs.declared.CompileRefused.{CompileRefused}
+use Rattle.compile.specs.declared.CompileRefused.TheVariants.{Library as OfLibrary, Card as OfCard}
 use Rattle.compile.proofs.WalkAsDefined.{Fits, Follows, decks-follows}
 use Rattle.compile.proofs.ImageView.{view-plain}
 use Rattle.compile_file.specs.Written.{Wrote}
@@ -53,14 +55,16 @@ module _ (image space : List ℕ) where
       go (bad f p) e = tt
 
   -- x is the space after it
-  module _ (x : List ℕ) (a : Compiled) (long : length space ≡ 65520) (e : a ≡ compiled it) (q : x ≡ compile_into it space) where
-    pub compile-done : (l n : ℕ) → a ≡ Done l n → (l * 91 ≤ 65520) × Wrote (program_of (compiling image 65520)) (l * 91) space x
-    compile-done l n d = subst (λ (m : ℕ). (l * 91 ≤ m) × Wrote (program_of (compiling image m)) (l * 91) space x) long (go it walk-fits (sym d ∙ e) q)
+  module _ (x : List ℕ) (long : length space ≡ 65520) (q : x ≡ compile_into it space) where
+    pub compile-done : (n : Counts) → Ok n ≡ compiled it → (n.lines * 91 ≤ 65520) × Wrote (program_of (compiling image 65520)) (n.lines * 91) space x
+    compile-done n e = subst (λ (m : ℕ). (n.lines * 91 ≤ m) × Wrote (program_of (compiling image m)) (n.lines * 91) space x) long (go it walk-fits e q)
       where
-        go : (c : Compiling) → Sized c → Done l n ≡ compiled c → x ≡ compile_into c space → (l * 91 ≤ length space) × Wrote (program_of c) (l * 91) space x
-        go (of_walk (walked ls m)) f h y =
-            let k : l ≡ length ls = ap (λ (r : Compiled). elim r [ Done i j ↦ i | OfLibrary g p ↦ 0 | Refused g o s ↦ 0 ]) h in
-            (omega (arith, f.long, f.few), (omega (arith, f.long), y))
+        lines_of : Result Counts CompileRefused → ℕ
+        lines_of (Ok k) = k.lines
+        lines_of (Err k) = 0
+
+        go : (c : Compiling) → Sized c → Ok n ≡ compiled c → x ≡ compile_into c space → (n.lines * 91 ≤ length space) × Wrote (program_of c) (n.lines * 91) space x
+        go (of_walk (walked ls m)) f h y = let k : n.lines ≡ length ls = ap lines_of h in (omega (arith, f.long, f.few), (omega (arith, f.long), y))
         go (of_walk (halted k o s)) f h y = absurd (let z : ◌≡◌ {A = ℕ} 0 1 = cc in omega arith)
         go (of_library f p) g h y = absurd (let z : ◌≡◌ {A = ℕ} 0 1 = cc in omega arith)
 
@@ -71,63 +75,48 @@ module _ (image space : List ℕ) where
           subst (λ (m : ℕ). Wrote (program_of (compiling image m)) r space y) long
           (subst (λ (t : List ℕ). Wrote t r space y) (ap (λ (n : ℕ). refused_line n place) told ∙ is) (subst (λ (b : List ℕ). Wrote (refused_line number place) r b y) same w))
 
-      pub compile-library : (f : Fault) (p : ℕ) → a ≡ OfLibrary f p → number ≡ fault_number f → Wrote (refused_line number (numeral p)) r x y → Wrote (program_of (compiling image 65520)) r space y
-      compile-library f p d told w = let z = go it (sym d ∙ e) q in refused (fault_number f) (numeral p) told z.0 z.1 w
-        where
-          go : (c : Compiling) → OfLibrary f p ≡ compiled c → x ≡ compile_into c space → (x ≡ space) × (refused_line (fault_number f) (numeral p) ≡ program_of c)
-          go (of_walk (walked ls m)) h u = absurd (let z : ◌≡◌ {A = ℕ} 0 1 = cc in omega arith)
-          go (of_walk (halted k o s)) h u = absurd (let z : ◌≡◌ {A = ℕ} 0 1 = cc in omega arith)
-          go (of_library g m) h u = (u, λ i. refused_line (compiled_number (h i)) (numeral (elim (h i) [ Done l n ↦ 0 | OfLibrary g p ↦ p | Refused k o s ↦ 0 ])))
+      -- the line of an answer
+      abbrev line_of : Result Counts CompileRefused → List ℕ
+      line_of (Ok k) = []
+      line_of (Err (OfLibrary k)) = refused_line (fault_number k.fault) (numeral k.place)
+      line_of (Err (OfCard k)) = refused_line (stop_number k.stop) (card_place k.owner k.seq)
 
-      pub compile-stopped : (k : Stop) (o s : ℕ) → a ≡ Refused k o s → number ≡ stop_number k → Wrote (refused_line number (card_place o s)) r x y → Wrote (program_of (compiling image 65520)) r space y
-      compile-stopped k o s d told w = let z = go it (sym d ∙ e) q in refused (stop_number k) (card_place o s) told z.0 z.1 w
+      pub compile-library : (k : Refusal) → Err (OfLibrary k) ≡ compiled it → number ≡ fault_number k.fault → Wrote (refused_line number (numeral k.place)) r x y → Wrote (program_of (compiling image 65520)) r space y
+      compile-library k e told w = let z = go it e q in refused (fault_number k.fault) (numeral k.place) told z.0 z.1 w
         where
-          go : (c : Compiling) → Refused k o s ≡ compiled c → x ≡ compile_into c space → (x ≡ space) × (refused_line (stop_number k) (card_place o s) ≡ program_of c)
+          go : (c : Compiling) → Err (OfLibrary k) ≡ compiled c → x ≡ compile_into c space → (x ≡ space) × (refused_line (fault_number k.fault) (numeral k.place) ≡ program_of c)
           go (of_walk (walked ls m)) h u = absurd (let z : ◌≡◌ {A = ℕ} 0 1 = cc in omega arith)
-          go (of_walk (halted j b t)) h u = (
-            u,
-            λ i. refused_line (compiled_number (h i)) (card_place (elim (h i) [ Done l n ↦ 0 | OfLibrary g p ↦ 0 | Refused k o s ↦ o ]) (elim (h i) [ Done l n ↦ 0 | OfLibrary g p ↦ 0 | Refused k o s ↦ s ])),
-          )
+          go (of_walk (halted j o s)) h u = absurd (let z : ◌≡◌ {A = ℕ} 0 1 = cc in omega arith)
+          go (of_library g m) h u = (u, ap line_of h)
+
+      pub compile-stopped : (k : Halt) → Err (OfCard k) ≡ compiled it → number ≡ stop_number k.stop → Wrote (refused_line number (card_place k.owner k.seq)) r x y → Wrote (program_of (compiling image 65520)) r space y
+      compile-stopped k e told w = let z = go it e q in refused (stop_number k.stop) (card_place k.owner k.seq) told z.0 z.1 w
+        where
+          go : (c : Compiling) → Err (OfCard k) ≡ compiled c → x ≡ compile_into c space → (x ≡ space) × (refused_line (stop_number k.stop) (card_place k.owner k.seq) ≡ program_of c)
+          go (of_walk (walked ls m)) h u = absurd (let z : ◌≡◌ {A = ℕ} 0 1 = cc in omega arith)
+          go (of_walk (halted j b t)) h u = (u, ap line_of h)
           go (of_library g m) h u = absurd (let z : ◌≡◌ {A = ℕ} 0 1 = cc in omega arith)
 
 -- UNPACKING: x is the space of the words after it
-abbrev pub Refusal : Packing → Type 0
-Refusal (Unpacked n) = ⊥
-Refusal Length = Unit {0}
-Refusal Tail = Unit {0}
-Refusal NoSpace = Unit {0}
-
-module _ (input words x : List ℕ) (a : Packing) (long : length words ≡ 4096) (e : a ≡ unpacking input (length words)) (q : x ≡ unpack_into input words) where
-  it-is : a ≡ unpacking input 4096
-  it-is = e ∙ ap (unpacking input) long
-
+module _ (input words x : List ℕ) (long : length words ≡ 4096) (q : x ≡ unpack_into input words) where
   -- the words stand at the front
-  pub unpacked-front : (n : ℕ) → a ≡ Unpacked n → (n ≤ length x) × (take n x ≡ unpacked input)
+  pub unpacked-front : (n : ℕ) → Ok n ≡ unpacking input (length words) → (n ≤ length x) × (take n x ≡ unpacked input)
   unfolding space_after
-  unpacked-front n d =
-      let k = accepted input (length words) n (sym e ∙ d) in
+  unpacked-front n e =
+      let k = accepted input (length words) n (sym e) in
       let l : length (unpacked input) ≡ n = unpacked-length input k.right ∙ sym k.count in
-      let y : x ≡ unpacked input ++ drop n words = q ∙ ap (λ (p : Packing). space_after p (unpacked input) words) (sym e ∙ d) in
+      let y : x ≡ unpacked input ++ drop n words = q ∙ ap (λ (p : Result ℕ PackingRefused). space_after p (unpacked input) words) (sym e) in
       (omega (arith, ap length y, length-append (unpacked input) (drop n words)), ap (take n) y ∙ take_at (unpacked input) (drop n words) n l)
 
   module _ (r : ℕ) (before after : List ℕ) where
-    pub unpack-done : (n : ℕ) → a ≡ Unpacked n → Wrote (program_of (compiling (take n x) 65520)) r before after → Wrote (after_unpacking (unpacking input 4096) (unpacked input)) r before after
-    unpack-done n d w =
-        let t : program_of (compiling (take n x) 65520) ≡ after_unpacking (unpacking input 4096) (unpacked input) =
-        ap (λ (ws : List ℕ). program_of (compiling ws 65520)) (unpacked-front n d).1 ∙ ap (λ (p : Packing). after_unpacking p (unpacked input)) (sym d ∙ it-is) in
-        subst (λ (t : List ℕ). Wrote t r before after) t w
+    answered : (p : Result ℕ PackingRefused) → p ≡ unpacking input (length words) → Wrote (after_unpacking p (unpacked input)) r before after → Wrote (after_unpacking (unpacking input 4096) (unpacked input)) r before after
+    answered p e w = subst (λ (t : List ℕ). Wrote t r before after) (ap (λ (a : Result ℕ PackingRefused). after_unpacking a (unpacked input)) (e ∙ ap (unpacking input) long)) w
 
-    refusal-line : (p : Packing) (ws : List ℕ) → Refusal p → refused_line (packing_number p) (numeral 0) ≡ after_unpacking p ws
-    refusal-line (Unpacked n) ws z = absurd z
-    refusal-line Length ws z = refl
-    refusal-line Tail ws z = refl
-    refusal-line NoSpace ws z = refl
+    pub unpack-done : (n : ℕ) → Ok n ≡ unpacking input (length words) → Wrote (program_of (compiling (take n x) 65520)) r before after → Wrote (after_unpacking (unpacking input 4096) (unpacked input)) r before after
+    unpack-done n e w = answered (Ok n) e (subst (λ (ws : List ℕ). Wrote (program_of (compiling ws 65520)) r before after) (unpacked-front n e).1 w)
 
-    pub unpack-refused : (p : Packing) (number : ℕ) → Refusal p → a ≡ p → number ≡ packing_number a → Wrote (refused_line number (numeral 0)) r before after → Wrote (after_unpacking (unpacking input 4096) (unpacked input)) r before after
-    unpack-refused p number z d told w =
-        let t : refused_line number (numeral 0) ≡ after_unpacking (unpacking input 4096) (unpacked input) =
-        ap (λ (k : ℕ). refused_line k (numeral 0)) (told ∙ ap packing_number d) ∙ refusal-line p (unpacked input) z ∙ ap (λ (p : Packing). after_unpacking p (unpacked input)) (sym d ∙ it-is) in
-        subst (λ (t : List ℕ). Wrote t r before after) t w
+    pub unpack-refused : (k : PackingRefused) (number : ℕ) → Err k ≡ unpacking input (length words) → number ≡ packing_number (Err k) → Wrote (refused_line number (numeral 0)) r before after → Wrote (after_unpacking (unpacking input 4096) (unpacked input)) r before after
+    unpack-refused k number e told w = answered (Err k) e (subst (λ (i : ℕ). Wrote (refused_line i (numeral 0)) r before after) told w)
 
 -- THE WHOLE: 52 is ahead of 50
 module _ (input : List ℕ) (r : ℕ) (before after : List ℕ) where

@@ -1,6 +1,6 @@
 -- Texts put one after another make the line of a refusal, its numbers without blanks ahead of them. Assumes nothing.
 --   texts       Puts, puts_then, puts-front, wrote-few, put_byte
---   numbers     numeral-few, field-numeral, blank-more, blank-stop
+--   numbers     numeral-few, field-numeral
 --   the lines   part, part-put, refused-put, card-put
 use Rattle.std.specs.Prelude.{if◌then◌else◌}
 use Prim.Native.Nat.{ℕ, zero, suc, ◌+◌, ◌-◌, ◌/◌, ◌%◌, ◌≤◌, ◌<◌}
@@ -84,13 +84,6 @@ unfolding number_into right_justified numeral
 field-numeral n f e =
     let few : length (digits 20 n []) ≤ length f = omega (arith, digits-few 20 n []) in
     rw (le-leb (length (digits 20 n [])) (length f) few) (blanks-past (length f - length (digits 20 n [])) (digits 20 n []) ∙ digits-start 20 n [] refl)
-
--- past a blank there is as much to do
-pub blank-more : (f : List ℕ) (i : ℕ) → i < length f → get_or f i 0 ≡ blank → after_blanks (drop i f) ≡ after_blanks (drop (i + 1) f)
-blank-more f i h e = rw (drop-cons f i 0 h, e, add-one i)
-
-pub blank-stop : (f : List ℕ) (i : ℕ) → i < length f → (get_or f i 0 ≡ blank → ⊥) → after_blanks (drop i f) ≡ drop i f
-blank-stop f i h e = rw (drop-cons f i 0 h, ne_eqb (get_or f i 0) blank e)
 
 -- THE LINES, put together from their parts
 abbrev pub part : ℕ → ℕ → List ℕ

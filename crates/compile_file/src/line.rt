@@ -1,5 +1,5 @@
 // The line of a refusal (RULES, "The compile program"): REFUSED, the number and the place, a blank between each two.
-ghost use Rattle.std.specs.Prelude.{◌≡◌, [], ◌∷◌, ◌++◌, ◌+◌, ◌≤◌, length, drop};
+ghost use Rattle.std.specs.Prelude.{◌≡◌, [], ◌∷◌, ◌++◌, ◌+◌, ◌≤◌, length};
 ghost use Rattle.words.specs.Names.{numeral};
 ghost use Rattle.compile.specs.Compile.{refused_line, card_place};
 ghost use Rattle.compile_file.specs.Written.{Wrote, after_blanks};
@@ -18,23 +18,19 @@ fn put_text(text: &[u8], out: &mut [u8], at: usize) -> usize
     ensures value { result ≡ at + length text.now }
     ensures out_after { out.new ≡ put_at at text.now out.old }
 {
-    words_lists::put_bytes(text, out, at);
+    words_lists::put(text, out, at);
     at + text.len()
 }
 
-// Where the blanks ahead of a number end.
-fn digits_at(field: &[u8]) -> usize
-    ensures upper_bound { result ≤ length field.now }
-    ensures field_value { drop result field.now ≡ after_blanks field.now }
+// A field without the blanks ahead of its number.
+fn digits_in(field: &[u8]) -> &[u8]
+    ensures { result.now ≡ after_blanks field.now }
 {
-    let mut i = 0;
-    while i < field.len() {
-        if field[i] != BLANK {
-            return i;
-        }
-        i += 1;
+    let mut rest = field;
+    while let [BLANK, more @ ..] = rest {
+        rest = more;
     }
-    i
+    rest
 }
 
 // Puts a number at a place, as decimals: where they end.
@@ -45,8 +41,7 @@ fn put_numeral(n: u64, out: &mut [u8], at: usize) -> usize
 {
     let mut field = [BLANK; DIGITS];
     words_names::put_number(n, &mut field);
-    let start = digits_at(&field);
-    put_text(&field[start..], out, at)
+    put_text(digits_in(&field), out, at)
 }
 
 // The same, and a byte after it.

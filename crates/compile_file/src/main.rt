@@ -9,10 +9,9 @@ ghost use Rattle.compile.specs.Compile.{compiling, program_of, after_unpacking, 
 mod line;
 
 use crate::line::{put_refused, put_refused_card};
-use compile::Compiled;
+use compile::CompileRefused;
 use std::io;
 use std::io::Read;
-use words_packing::Packing;
 
 // the most bytes of input, and the row of a longer one
 const MOST: usize = 30720;
@@ -34,12 +33,12 @@ fn put_file(image: &[u64], out: &mut [u8]) -> usize
 {
     let answer = compile::compile(image, out);
     match answer {
-        Compiled::Done(lines, _) => lines * LINE,
-        Compiled::Library(_, place) => {
-            put_refused(compile::compiled_number(answer), place as u64, out)
+        Ok(counts) => counts.lines * LINE,
+        Err(CompileRefused::Library(refusal)) => {
+            put_refused(compile::compiled_number(answer), refusal.place as u64, out)
         }
-        Compiled::Refused(_, owner, seq) => {
-            put_refused_card(compile::compiled_number(answer), owner, seq, out)
+        Err(CompileRefused::Card(halt)) => {
+            put_refused_card(compile::compiled_number(answer), halt.owner, halt.seq, out)
         }
     }
 }
@@ -50,12 +49,9 @@ fn put_packed(input: &[u8], words: &mut [u64], out: &mut [u8]) -> usize
     ensures { Wrote (after_unpacking (unpacking input.now 4096) (unpacked input.now)) result out.old out.new }
 {
     let answer = words_packing::unpack(input, words);
-    let number = words_packing::packing_number(answer);
     match answer {
-        Packing::Done(n) => put_file(&words[..n], out),
-        Packing::Length => put_refused(number, 0, out),
-        Packing::Tail => put_refused(number, 0, out),
-        Packing::Space => put_refused(number, 0, out),
+        Ok(n) => put_file(&words[..n], out),
+        Err(_) => put_refused(words_packing::packing_number(answer), 0, out),
     }
 }
 

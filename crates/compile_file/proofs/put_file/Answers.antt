@@ -1,29 +1,25 @@
 -- What compiling answers decides what is written. Assumes nothing.
-use Rattle.compile_file.proofs.ProgramWrites.{compile-done, compile-library, compile-stopped}
+use mathlib.Core.Path.{sym, ap, ◌∙◌}
 use borrow.Author.Rules.{rules}
+use Rattle.compile.specs.Compile.{compiled_number}
+use Rattle.compile_file.proofs.ProgramWrites.{compile-done, compile-library, compile-stopped}
 use Rattle.compile_file.proofs.put_file.Goals as goal
 
 pub overflow_mul-result : goal.overflow_mul-result
 overflow_mul-result c =
     let a = c.args in
     let k = c.compile-answer in
-    let h = (compile-done a.image.now a.out.now _ _ c.requires k.ensures.answer k.ensures.space _ _ c.in-Done.is).0 in
+    let h = (compile-done a.image.now a.out.now _ c.requires k.ensures.space _ (sym c.in-Ok.is ∙ k.ensures.answer)).0 in
     search (rules, h)
 
-pub returns-in-Done : goal.returns-in-Done
-returns-in-Done c =
+pub returns-in-Ok : goal.returns-in-Ok
+returns-in-Ok c =
     let a = c.args in
     let k = c.compile-answer in
-    (compile-done a.image.now a.out.now _ _ c.requires k.ensures.answer k.ensures.space _ _ c.in-Done.is).1
+    (compile-done a.image.now a.out.now _ c.requires k.ensures.space _ (sym c.in-Ok.is ∙ k.ensures.answer)).1
 
-pub returns-in-Library : goal.returns-in-Library
-returns-in-Library c =
-    let a = c.args in
-    let k = c.compile-answer in
-    compile-library a.image.now a.out.now _ _ c.requires k.ensures.answer k.ensures.space _ _ _ _ _ c.in-Library.is c.compiled_number.ensures c.put_refused.ensures
+pub returns-in-Err-Library : goal.returns-in-Err-Library
+returns-in-Err-Library c = let i = c.in-Err-Library in ?
 
-pub returns-in-Refused : goal.returns-in-Refused
-returns-in-Refused c =
-    let a = c.args in
-    let k = c.compile-answer in
-    compile-stopped a.image.now a.out.now _ _ c.requires k.ensures.answer k.ensures.space _ _ _ _ _ _ c.in-Refused.is c.compiled_number-in-Refused.ensures c.put_refused_card.ensures
+pub returns-in-Err-Card : goal.returns-in-Err-Card
+returns-in-Err-Card c = let i = c.in-Err-Card in ?
