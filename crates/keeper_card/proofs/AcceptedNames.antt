@@ -3,7 +3,7 @@
 --   directory-long               the directory in its words
 --   directory-is, count-is       that of an accepted image
 --   entry-name, card-named       an entry's name, and a card's
-use Rattle.std.specs.Prelude.{if◌then◌else◌}
+use Rattle.std.specs.Prelude.{if◌then◌else◌, Result, Ok, Err}
 use Prim.Native.Nat.{ℕ, zero, suc, ◌+◌, ◌-◌, ◌≤◌, ◌<◌}
 use native.Mathlib.Omega.{arith}
 use native.Mathlib.Decide.{dec_le}
@@ -19,9 +19,7 @@ use Rattle.words.proofs.TestParts.{true-T}
 use Rattle.library.specs.Library.{Library, name_at, purged, reserved}
 use Rattle.library.specs.Check.{Checking, good, bad, checked, check, directory_count, directory_of, cards_place}
 use Rattle.library.specs.Sound.{is_entry}
-use Rattle.library.specs.declared.Fault.{Fault}
-use Rattle.library.specs.declared.Checked.{Checked}
-use Rattle.library.specs.declared.Checked.TheVariants.{Sound as Accepts, Refused as Rejects}
+use Rattle.library.specs.declared.Refusal.{Refusal}
 use Rattle.library.proofs.EntryNames.{name-at}
 use Rattle.library.proofs.AcceptedImage.{check-accepted}
 use Rattle.library.proofs.CheckSound.{check_sound}
@@ -30,36 +28,36 @@ use Rattle.library_tables.specs.Found.{Tabled}
 use Rattle.library_tables.proofs.TableCounts.{tabled}
 use Rattle.keeper_card.specs.Naming.{Showing, in_space, of_checked, card_shown, naming, entry_name}
 use Rattle.keeper_card.specs.Parts.{Answers, AnswersOf, word_name, entry_word, pointed}
-use Rattle.keeper_card.specs.declared.Told.{Told}
-use Rattle.keeper_card.specs.declared.Told.TheVariants.{Library as OfLibrary}
+use Rattle.keeper_card.specs.declared.ShowRefused.{ShowRefused}
+use Rattle.keeper_card.specs.declared.ShowRefused.TheVariants.{Library as OfLibrary}
 
 -- THE CHECK'S ANSWERS
 module _ (ws before : List ℕ) (f : Library → Showing) where
-  pub told-sound : (a : Checked) (r : Told) (after : List ℕ) → a ≡ checked (check ws) → a ≡ Accepts → AnswersOf ws f r before after → Answers (of_checked f (check ws)) r before after
-  told-sound a r after e q h = go (check ws) refl (sym e ∙ q)
+  pub told-sound : (r : Result ℕ ShowRefused) (after : List ℕ) → Ok tt ≡ checked (check ws) → AnswersOf ws f r before after → Answers (of_checked f (check ws)) r before after
+  told-sound r after q h = go (check ws) refl q
     where
-      go : (c : Checking) → check ws ≡ c → checked c ≡ Accepts → Answers (of_checked f (check ws)) r before after
+      go : (c : Checking) → check ws ≡ c → Ok tt ≡ checked c → Answers (of_checked f (check ws)) r before after
       go (good l) p s = subst (λ (c : Checking). Answers (of_checked f c) r before after) (sym p) (h l p)
       go (bad k n) p s = absurd (let z : ◌≡◌ {A = ℕ} 0 1 = cc in omega arith)
 
-  pub told-refused : (a : Checked) (k : Fault) (n : ℕ) → a ≡ checked (check ws) → a ≡ Rejects k n → Answers (of_checked f (check ws)) (OfLibrary k n) before before
-  told-refused a k n e q = go (check ws) refl (sym e ∙ q)
+  pub told-refused : (k : Refusal) → Err k ≡ checked (check ws) → Answers (of_checked f (check ws)) (Err (OfLibrary k)) before before
+  told-refused k q = go (check ws) refl q
     where
-      from : Checked → Told
-      from Accepts = OfLibrary k n
-      from (Rejects g m) = OfLibrary g m
+      from : Result (Unit {0}) Refusal → Result ℕ ShowRefused
+      from (Ok u) = Err (OfLibrary k)
+      from (Err j) = Err (OfLibrary j)
 
-      go : (c : Checking) → check ws ≡ c → checked c ≡ Rejects k n → Answers (of_checked f (check ws)) (OfLibrary k n) before before
+      go : (c : Checking) → check ws ≡ c → Err k ≡ checked c → Answers (of_checked f (check ws)) (Err (OfLibrary k)) before before
       go (good l) p s = absurd (let z : ◌≡◌ {A = ℕ} 0 1 = cc in omega arith)
-      go (bad g m) p s = subst (λ (c : Checking). Answers (of_checked f c) (OfLibrary k n) before before) (sym p) (sym (ap from s), refl)
+      go (bad g m) p s = subst (λ (c : Checking). Answers (of_checked f c) (Err (OfLibrary k)) before before) (sym p) (ap from s, refl)
 
 module _ (ws before : List ℕ) (owner seq : ℕ) where
-  pub naming-sound : (a : Checked) (r : Told) (after : List ℕ) → a ≡ checked (check ws) → a ≡ Accepts → AnswersOf ws (card_shown owner seq (length before)) r before after
+  pub naming-sound : (r : Result ℕ ShowRefused) (after : List ℕ) → Ok tt ≡ checked (check ws) → AnswersOf ws (card_shown owner seq (length before)) r before after
       → Answers (naming ws owner seq (length before)) r before after
   unfolding naming
   naming-sound = told-sound ws before (card_shown owner seq (length before))
 
-  pub naming-refused : (a : Checked) (k : Fault) (n : ℕ) → a ≡ checked (check ws) → a ≡ Rejects k n → Answers (naming ws owner seq (length before)) (OfLibrary k n) before before
+  pub naming-refused : (k : Refusal) → Err k ≡ checked (check ws) → Answers (naming ws owner seq (length before)) (Err (OfLibrary k)) before before
   unfolding naming
   naming-refused = told-refused ws before (card_shown owner seq (length before))
 
@@ -140,7 +138,7 @@ module _ (ws : List ℕ) (l : Library) (e : check ws ≡ good l) where
           rw (lt-ltb (directory_count ws) (suc n) lt) (zero-name ∙ sym (none-past l.directory (suc n) out))
 
   -- a card's name from its owner's word
-  pub card-named : (owner seq : ℕ) (out : List ℕ) (w : ℕ) (name : List ℕ) (r : Told) {after : List ℕ} → name ≡ word_name w → w ≡ entry_word ws owner
+  pub card-named : (owner seq : ℕ) (out : List ℕ) (w : ℕ) (name : List ℕ) (r : Result ℕ ShowRefused) {after : List ℕ} → name ≡ word_name w → w ≡ entry_word ws owner
       → Answers (in_space (length out) (length (pointed name seq)) (pointed name seq)) r out after → Answers (card_shown owner seq (length out) l) r out after
   card-named owner seq out w name r {after} en ew h =
       subst (λ (n : List ℕ). Answers (in_space (length out) (length (pointed n seq)) (pointed n seq)) r out after) (en ∙ ap word_name ew ∙ entry-name owner) h

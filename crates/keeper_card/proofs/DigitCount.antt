@@ -1,44 +1,31 @@
--- How many digits a number has, counted one after another. Assumes nothing.
+-- How many digits a number has, by the powers of ten. Assumes nothing.
+use Rattle.std.specs.Prelude.{if◌then◌else◌}
 use Prim.Native.Nat.{ℕ, zero, suc, ◌+◌, ◌*◌, ◌/◌, ◌%◌, ◌^◌, ◌≤◌, ◌<◌}
 use native.Mathlib.Omega.{arith}
 use native.Mathlib.Nat.{pow-suc}
-use mathlib.Core.Path.{◌≡◌, refl, ap, subst}
+use mathlib.Core.Path.{◌≡◌, refl}
 use mathlib.Core.List.{List, [], ◌∷◌}
 use borrow.Author.Tests.{lt-ltb, le-ltb}
 use lib.ListN.{length}
 use Rattle.words.specs.Names.{digits, numeral}
 
--- the digits passed so far, with m left of the number
-pub record Counting (n m k : ℕ) : Type 0 where
-  pub left : ℕ
-  pub rest : List ℕ
-  pub all : left + length rest ≡ 19
-  pub count : k ≡ length rest + 1
-  pub below : m < 10 ^ suc left
-  pub owed : digits (suc left) m rest ≡ numeral n
+ten-pos : (k : ℕ) → 0 < 10 ^ k
+ten-pos zero = omega arith
+ten-pos (suc k) = let p : 10 ^ suc k ≡ 10 ^ k * 10 = pow-suc 10 k in omega (arith, ten-pos k)
 
-pub count-start : (n : ℕ) → n < 2 ^ 64 → Counting n n 1
+-- one more than the power that it reaches
+digits-long : (k fuel n : ℕ) (r : List ℕ) → 10 ^ k ≤ n → n < 10 * 10 ^ k → k < fuel → length (digits fuel n r) ≡ k + 1 + length r
+digits-long k zero n r a b h = absurd (omega arith)
+digits-long zero (suc fuel) n r a b h = rw (lt-ltb n 10 (omega arith)) (omega arith)
+digits-long (suc k) (suc fuel) n r a b h =
+    let p : 10 ^ suc k ≡ 10 ^ k * 10 = pow-suc 10 k in
+    let pos : 0 < 10 ^ k = ten-pos k in
+    rw (le-ltb n 10 (omega arith)) (let q : length (digits fuel (n / 10) ((48 + n % 10) ∷ r)) ≡ k + 1 + suc (length r) = digits-long k fuel (n / 10) ((48 + n % 10) ∷ r) (omega arith) (omega arith) (omega arith) in omega arith)
+
+pub digits-reach : (n k : ℕ) → 10 ^ k ≤ n → n < 10 * 10 ^ k → k < 20 → k + 1 ≡ length (numeral n)
 unfolding numeral
-count-start n h = record { left = 19; rest = []; all = refl; count = refl; below = omega arith; owed = refl }
+digits-reach n k a b h = let e : length (digits 20 n []) ≡ k + 1 + 0 = digits-long k 20 n [] a b h in omega arith
 
-pub count-more : (n m k : ℕ) → 10 ≤ m → Counting n m k → Counting n (m / 10) (k + 1)
-count-more n m k h c = go c.left c.all c.below c.owed
-  where
-    go : (left : ℕ) → left + length c.rest ≡ 19 → m < 10 ^ suc left → digits (suc left) m c.rest ≡ numeral n → Counting n (m / 10) (k + 1)
-    go zero a b t = absurd (omega arith)
-    go (suc left) a b t =
-        let l : m < 10 ^ suc left * 10 = subst (λ (x : ℕ). m < x) (pow-suc 10 (suc left)) b in
-        record {
-          left = left;
-          rest = (48 + m % 10) ∷ c.rest;
-          all = omega arith;
-          count = omega (arith, c.count);
-          below = omega arith;
-          owed = rw (le-ltb m 10 h) at t;
-        }
-
-pub count-end : (n m k : ℕ) → m < 10 → Counting n m k → (k ≤ 20) × (k ≡ length (numeral n))
-count-end n m k h c =
-    let t : (48 + m) ∷ c.rest ≡ numeral n = rw (lt-ltb m 10 h) at c.owed in
-    let l : suc (length c.rest) ≡ length (numeral n) = ap length t in
-    (omega (arith, c.all, c.count), omega (arith, c.count))
+pub digit-zero : (n : ℕ) → n ≡ 0 → 1 ≡ length (numeral n)
+unfolding numeral
+digit-zero n e = rw e

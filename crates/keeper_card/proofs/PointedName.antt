@@ -1,7 +1,7 @@
 -- A card's name, a point and a number written one after another. Assumes nothing.
 --   name-few, name-taken, name-inside                    the letters of a word
 --   too_short, put-pointed        the bytes in their space
-use Rattle.std.specs.Prelude.{if◌then◌else◌}
+use Rattle.std.specs.Prelude.{if◌then◌else◌, Ok, Err}
 use Prim.Native.Nat.{ℕ, suc, ◌+◌, ◌-◌, ◌≤◌, ◌<◌}
 use native.Mathlib.Omega.{arith}
 use native.Mathlib.Numerals.{add-one}
@@ -19,7 +19,7 @@ use Rattle.words.specs.Spelt.{name_length, name_into, number_into}
 use Rattle.words.proofs.TestParts.{and_left, and_right, true-T}
 use Rattle.keeper_card.specs.Naming.{in_space}
 use Rattle.keeper_card.specs.Parts.{Answers, word_name, pointed}
-use Rattle.keeper_card.specs.declared.Told.TheVariants.{Done, Space}
+use Rattle.keeper_card.specs.declared.ShowRefused.TheVariants.{Space}
 
 -- A WORD'S LETTERS, no more than nine
 pub name-few : (w : ℕ) → is_name_word w ≡ true → length (name_of w) ≤ 9
@@ -61,7 +61,7 @@ module _ (name out : List ℕ) (seq k : ℕ) (digits : k ≡ length (numeral seq
   pub pointed-long : length (pointed name seq) ≡ p + 1 + k
   pointed-long = length-append name (46 ∷ numeral seq) ∙ omega arith
 
-  pub too_short : length out < p + 1 + k → Answers (in_space (length out) (length (pointed name seq)) (pointed name seq)) Space out out
+  pub too_short : length out < p + 1 + k → Answers (in_space (length out) (length (pointed name seq)) (pointed name seq)) (Err Space) out out
   too_short h =
       let l : length out < length (pointed name seq) = omega (arith, pointed-long) in
       rw (lt-leb (length (pointed name seq)) (length out) l) (refl, refl)
@@ -88,7 +88,7 @@ module _ (name out : List ℕ) (seq k : ℕ) (digits : k ≡ length (numeral seq
         (λ i. a i ++ (num i ++ b i)) ∙ simp append_assoc
 
     pub pointed-answers : (z : List ℕ) → z ≡ pointed name seq ++ drop (length (pointed name seq)) out
-        → Answers (in_space (length out) (length (pointed name seq)) (pointed name seq)) (Done (p + 1 + k)) out z
+        → Answers (in_space (length out) (length (pointed name seq)) (pointed name seq)) (Ok (p + 1 + k)) out z
     pointed-answers z e =
         let l : length (pointed name seq) ≤ length out = omega (arith, pointed-long) in
-        rw (le-leb (length (pointed name seq)) (length out) l) (ap Done (sym pointed-long), e)
+        rw (le-leb (length (pointed name seq)) (length out) l) (ap Ok (sym pointed-long), e)

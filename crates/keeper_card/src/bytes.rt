@@ -1,4 +1,4 @@
-// Bytes written one after another, and how many a number takes.
+// How many bytes a number takes.
 ghost use Rattle.std.specs.Prelude.{◌≡◌, ◌+◌, ◌≤◌, length};
 ghost use Rattle.words.specs.Names.{numeral};
 
@@ -6,11 +6,8 @@ ghost use Rattle.words.specs.Names.{numeral};
 pub(crate) fn digits(n: u64) -> usize
     ensures { (result ≤ 20) × (result ≡ length (numeral n)) }
 {
-    let mut m = n;
-    let mut count = 1;
-    while 10 <= m {
-        m = m / 10;
-        count += 1;
+    match n.checked_ilog10() {
+        Some(tens) => tens as usize + 1,
+        None => 1,
     }
-    count
 }

@@ -21,7 +21,7 @@ fn put_card(name: &[u8], seq: u64, out: &mut [u8]) -> Result<usize, ShowRefused>
     if out.len() < end {
         return Err(ShowRefused::Space);
     }
-    words_lists::put_bytes(name, out, 0);
+    words_lists::put(name, out, 0);
     out[point] = POINT;
     words_names::put_number(seq, &mut out[point + 1..end]);
     Ok(end)

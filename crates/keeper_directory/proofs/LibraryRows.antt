@@ -3,7 +3,7 @@
 --   flags-are                 each entry's flag
 --   rows_are                  each entry's row
 --   listed-short, listed-all  the rows in their space
-use Rattle.std.specs.Prelude.{if◌then◌else◌}
+use Rattle.std.specs.Prelude.{if◌then◌else◌, Ok, Err}
 use Prim.Native.Nat.{ℕ, zero, suc, ◌-◌, ◌*◌, ◌≤◌, ◌<◌}
 use native.Mathlib.Omega.{arith}
 use mathlib.Core.Path.{◌≡◌, refl, sym, ap, ◌∙◌, subst}
@@ -33,7 +33,7 @@ use Rattle.library_check.proofs.Walking.{read-walks}
 use Rattle.library_check.proofs.Spanning.{walks-span}
 use Rattle.keeper_card.specs.Naming.{entry_name}
 use Rattle.keeper_card.specs.Parts.{Answers, word_name}
-use Rattle.keeper_card.specs.declared.Told.TheVariants.{Done, Space}
+use Rattle.keeper_card.specs.declared.ShowRefused.TheVariants.{Space}
 use Rattle.keeper_card.proofs.AcceptedNames.{directory-is, count-is, name-is}
 use Rattle.keeper_directory.specs.Keeper.{deck_kind, purged_or, entry_kind, yank_mark, entry_row, rows_up_to, entry_rows, listed}
 use Rattle.keeper_directory.specs.Parts.{row_bytes, row_at, kinds_of, Kinds}
@@ -105,12 +105,12 @@ module _ (ws : List ℕ) (l : Library) (e : check ws ≡ good l) where
   rows_long = first-long (entry_row l) row-of-long (length l.directory) ∙ ap (λ (n : ℕ). n * 11) (count-is ws l e)
 
   module _ (n : ℕ) (is : n ≡ directory_count ws) (rows : List ℕ) where
-    pub listed-short : length rows < n * 11 → Answers (listed (length rows) l) Space rows rows
+    pub listed-short : length rows < n * 11 → Answers (listed (length rows) l) (Err Space) rows rows
     listed-short h =
         let lt : length rows < length (entry_rows l) = omega (arith, is, rows_long) in
         rw (lt-leb (length (entry_rows l)) (length rows) lt) (refl, refl)
 
-    pub listed-all : (after : List ℕ) → n * 11 ≤ length rows → after ≡ entry_rows l ++ drop (directory_count ws * 11) rows → Answers (listed (length rows) l) (Done n) rows after
+    pub listed-all : (after : List ℕ) → n * 11 ≤ length rows → after ≡ entry_rows l ++ drop (directory_count ws * 11) rows → Answers (listed (length rows) l) (Ok n) rows after
     listed-all after h p =
         let le : length (entry_rows l) ≤ length rows = omega (arith, is, rows_long) in
-        rw (le-leb (length (entry_rows l)) (length rows) le) (ap Done (is ∙ sym (count-is ws l e)), p ∙ ap (λ (k : ℕ). entry_rows l ++ drop k rows) (sym rows_long))
+        rw (le-leb (length (entry_rows l)) (length rows) le) (ap Ok (is ∙ sym (count-is ws l e)), p ∙ ap (λ (k : ℕ). entry_rows l ++ drop k rows) (sym rows_long))

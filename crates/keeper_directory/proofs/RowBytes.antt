@@ -1,6 +1,5 @@
 -- Rows of eleven bytes, one after another: a name in nine columns, a kind and a mark. Assumes nothing.
 --   name-justified       a name in columns that were blank
---   name-more, name-end  its letters copied
 --   row_put, row-long    one row
 --   first-long, rows_more              the rows of the first entries
 --   row-at-long, row-at-is             an entry's row
@@ -58,17 +57,6 @@ left-long t = length-take 9 (t ++ replicate 9 blank) ∙ omega (arith, length-ap
 
 pub name-long : (w : ℕ) (o : List ℕ) → o ≡ name_into w (replicate 9 blank) → length o ≡ 9
 name-long w o e = ap length (e ∙ name-justified w) ∙ left-long (word_name w)
-
--- its letters copied one after another
-module _ (row name : List ℕ) (nine : length name ≡ 9) (long : length row ≡ 11) where
-  pub name-more : (now : List ℕ) (i : ℕ) → i < 9 → now ≡ paste row 0 name i → set now i (get_or name i 0) ≡ paste row 0 name (i + 1)
-  name-more now i h e =
-      let z : 0 + i ≡ i = omega arith in
-      ap (λ (l : List ℕ). set l i (get_or name i 0)) e ∙ ap (λ (k : ℕ). set (paste row 0 name i) k (get_or name i 0)) (sym z)
-      ∙ paste-suc row 0 name i 0 (omega arith) (omega arith) ∙ ap (paste row 0 name) (sym (add-one i))
-
-  pub name-end : (now : List ℕ) (i : ℕ) → i ≡ 9 → now ≡ paste row 0 name i → now ≡ name ++ drop 9 row
-  name-end now i h e = e ∙ ap (paste row 0 name) h ∙ ap (λ (l : List ℕ). l ++ drop 9 row) (take_all 9 name (omega arith))
 
 -- ONE ROW
 pub row-long : (w kind : ℕ) (yk : Bool) → length (row_bytes w kind yk) ≡ 11

@@ -49,11 +49,7 @@ fn put_name(name: &[u8], row: &mut [u8])
     requires { (length name.now ≡ 9) × (length row.old ≡ 11) }
     ensures { row.new ≡ name.now ++ drop 9 row.old }
 {
-    let mut i = 0;
-    while i < NAME {
-        row[i] = name[i];
-        i += 1;
-    }
+    row[..NAME].copy_from_slice(name);
 }
 
 // The row of an entry of this word, kind and flag.
@@ -73,16 +69,9 @@ fn put_rows(directory: &[u64], kinds: &[u8], flags: &[u64; ENTRIES], rows: &mut 
     requires { (length directory.now * 11 ≤ length rows.old) × ((length directory.now < length kinds.now) × (length directory.now < 1024)) }
     ensures { rows.new ≡ rows_up_to (row_at directory.now kinds.now flags.now) (length directory.now) ++ drop (length directory.now * 11) rows.old }
 {
-    let mut i = 0;
-    while i < directory.len() {
+    for (i, w) in directory.iter().enumerate() {
         let at = i * ROW;
-        put_row(
-            directory[i],
-            kinds[i + 1],
-            flags[i + 1],
-            &mut rows[at..at + ROW],
-        );
-        i += 1;
+        put_row(*w, kinds[i + 1], flags[i + 1], &mut rows[at..at + ROW]);
     }
 }
 

@@ -18,10 +18,9 @@ fn put_kind(kinds: &mut [u8], n: u64, line: DeckLine)
         return;
     }
     match line {
-        DeckLine::NotDeck => {}
-        DeckLine::BadDeck => {}
         DeckLine::Deck(_) => kinds[n as usize] = NORMAL,
         DeckLine::Common(_) => kinds[n as usize] = COMMON,
+        DeckLine::NotDeck | DeckLine::BadDeck => {}
     }
 }
 

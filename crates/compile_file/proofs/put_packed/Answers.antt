@@ -11,6 +11,12 @@ slice_bounds-put_file-end c =
     let u = c.unpack-answer in
     (unpacked-front a.input.now a.words.now _ c.requires.0 u.ensures.out_after _ (sym c.in-Ok.is ∙ u.ensures.value)).0
 
+pub slice_bounds-put_file-end-in-Ok : goal.slice_bounds-put_file-end-in-Ok
+slice_bounds-put_file-end-in-Ok c =
+    let a = c.args in
+    let u = c.unpack-answer in
+    sym (length-take-le _ _ (unpacked-front a.input.now a.words.now _ c.requires.0 u.ensures.out_after _ (sym c.in-Ok.is ∙ u.ensures.value)).0)
+
 pub returns-in-Ok : goal.returns-in-Ok
 returns-in-Ok c =
     let a = c.args in

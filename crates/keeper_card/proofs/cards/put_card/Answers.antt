@@ -14,7 +14,7 @@ returns-then-out-end c =
 
 pub shape_of-out : goal.shape_of-out
 shape_of-out c =
-    let b = c.put_bytes in
+    let b = c.put in
     omega (arith, b.auto.out, c.put_number.auto.field, length-set b.new.out (length c.args.name.now) 46)
 
 pub returns : goal.returns
@@ -24,4 +24,4 @@ returns c =
     let d = c.digits.ensures.1 in
     let fits = c.if-out-end.false in
     pointed-answers a.name.now a.out.now a.seq k.result d fits _
-    (put-pointed a.name.now a.out.now a.seq k.result d fits _ _ (c.put_bytes.ensures ∙ over-put 0 a.name.now a.out.now (omega arith)) c.put_number.ensures.field_after)
+    (put-pointed a.name.now a.out.now a.seq k.result d fits _ _ (c.put.ensures ∙ over-put 0 a.name.now a.out.now (omega arith)) c.put_number.ensures.field_after)
