@@ -5,7 +5,8 @@ ghost use Rattle.std.specs.Prelude.{◌≡◌, ◌+◌, ◌*◌, ◌/◌, ◌%�
 ghost use Rattle.library_check.specs.Keys.{Listed, Stands};
 ghost use Rattle.library_check.specs.Rows.{Row10};
 
-use library::{FIELD, Found, NUMBER};
+use library::{FIELD, NUMBER};
+use library_image::see;
 
 const MOST_CARDS: usize = 16384;
 
@@ -17,19 +18,19 @@ fn key_of(w: u64) -> u64
 }
 
 // The keys of all cards: how many there are.
-fn list_keys(image: &[u64], from: usize, keys: &mut [u64]) -> usize
-    requires { length keys.old ≡ 16384 }
+fn list_keys(image: &[u64], from: usize, keys: &mut [u64; MOST_CARDS]) -> usize
     ensures upper_bound { result ≤ length keys.new }
     ensures listed { Listed image.now from (take result keys.new) }
 {
     let mut n: usize = 0;
     let mut at = from;
+    // a walk from card to card
     while at < image.len() {
         // row 5 lets no more cards in
-        if n == keys.len() {
+        if n == MOST_CARDS {
             return n;
         }
-        let c = library_image::see(image, at);
+        let c = see(image, at);
         keys[n] = key_of(image[at]);
         n += 1;
         at = c.next;
@@ -42,23 +43,20 @@ fn place_of(image: &[u64], from: usize, k: usize) -> usize
     ensures { Stands image.now from k result }
 {
     let mut at = from;
-    let mut i: usize = 0;
-    while i < k {
-        let c = library_image::see(image, at);
-        at = c.next;
-        i += 1;
+    for _ in 0..k {
+        at = see(image, at).next;
     }
     at
 }
 
-pub(crate) fn twice_fault(image: &[u64], from: usize) -> Found
+pub(crate) fn twice_fault(image: &[u64], from: usize) -> Option<usize>
     ensures { Row10 image.now from result }
 {
     let mut keys = [0u64; MOST_CARDS];
     let n = list_keys(image, from, &mut keys);
     let k = library_index_twice::first_twice(&keys[..n]);
     if n <= k {
-        return Found::Nothing;
+        return None;
     }
-    Found::At(place_of(image, from, k))
+    Some(place_of(image, from, k))
 }

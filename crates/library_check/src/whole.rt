@@ -8,13 +8,13 @@ use crate::bits::bits_fault;
 use crate::deck_cards::{cards_end, decks_fault};
 use crate::twice::twice_fault;
 use crate::yanks::yanks_fault;
-use library::{Checked, DIRECTORY, Fault, Found};
+use library::{DIRECTORY, Fault, Refusal, refuse};
 
 // a flag for each directory number, 0 to 1,023
 const FLAGS: usize = 1024;
 
 // Row 9, under the flags of the cards of YANK$$$, which end at `end`.
-fn stored_fault(image: &[u64], directory: &[u64], from: usize, end: usize) -> Found
+fn stored_fault(image: &[u64], directory: &[u64], from: usize, end: usize) -> Option<usize>
     requires { (from ≤ end) × (end ≤ length image.now) }
     ensures { RowBits directory.now image.now from end result }
 {
@@ -24,35 +24,26 @@ fn stored_fault(image: &[u64], directory: &[u64], from: usize, end: usize) -> Fo
 }
 
 // Rows 8, 10 and 9.
-fn check_yanks(image: &[u64], directory: &[u64], list: &[u64], from: usize) -> Checked
+fn check_yanks(image: &[u64], directory: &[u64], list: &[u64], from: usize) -> Result<(), Refusal>
     requires { from ≤ length image.now }
     ensures { AfterDecks directory.now list.now image.now from result }
 {
     let end = cards_end(image, from);
-    match yanks_fault(image, directory, list, from, end) {
-        Found::At(p) => Checked::Refused(Fault::Yank, p),
-        Found::Nothing => match twice_fault(image, from) {
-            Found::At(p) => Checked::Refused(Fault::Twice, p),
-            Found::Nothing => match stored_fault(image, directory, from, end) {
-                Found::At(p) => Checked::Refused(Fault::Bit, p),
-                Found::Nothing => Checked::Sound,
-            },
-        },
-    }
+    refuse(Fault::Yank, yanks_fault(image, directory, list, from, end))?;
+    refuse(Fault::Twice, twice_fault(image, from))?;
+    refuse(Fault::Bit, stored_fault(image, directory, from, end))
 }
 
 // Rows 7 to 10 of an image with this directory and deck list, whose cards stand from `from` on.
-fn check_decks(image: &[u64], directory: &[u64], list: &[u64], from: usize) -> Checked
+fn check_decks(image: &[u64], directory: &[u64], list: &[u64], from: usize) -> Result<(), Refusal>
     requires { from ≤ length image.now }
     ensures { AfterCards directory.now list.now image.now from result }
 {
-    match decks_fault(image, directory, list, from) {
-        Found::At(p) => Checked::Refused(Fault::Decks, p),
-        Found::Nothing => check_yanks(image, directory, list, from),
-    }
+    refuse(Fault::Decks, decks_fault(image, directory, list, from))?;
+    check_yanks(image, directory, list, from)
 }
 
-fn check_cards(image: &[u64]) -> Checked
+fn check_cards(image: &[u64]) -> Result<(), Refusal>
     requires sized { Sized image.now }
     requires tabled { Tabled image.now }
     ensures { AfterRows image.now result }
@@ -63,11 +54,9 @@ fn check_cards(image: &[u64]) -> Checked
 }
 
 // The check of an image.
-pub fn check(image: &[u64]) -> Checked
+pub fn check(image: &[u64]) -> Result<(), Refusal>
     ensures { result ≡ checked (Rattle.library.specs.Check.check image.now) }
 {
-    match library_cards::first_rows(image) {
-        Checked::Refused(fault, p) => Checked::Refused(fault, p),
-        Checked::Sound => check_cards(image),
-    }
+    library_cards::first_rows(image)?;
+    check_cards(image)
 }
