@@ -1,5 +1,5 @@
 -- The library in work written out, tables and cards below and above the gap, is the image.
-use Rattle.std.specs.Prelude.{if◌then◌else◌}
+use Rattle.std.specs.Prelude.{if◌then◌else◌, Ok, Err}
 use Prim.Native.Nat.{ℕ, ◌+◌, ◌-◌, ◌*◌, ◌^◌, ◌<◌}
 use native.Mathlib.Omega.{arith}
 use mathlib.Core.Path.{◌≡◌, refl, sym, ap, ap₂, ◌∙◌}
@@ -21,7 +21,7 @@ use Rattle.run_meaning.specs.Run.{ended, updated, not_updated, from_updated, ran
 use Rattle.run.specs.Desk.{Sane, Held}
 use Rattle.run.specs.Written.{after_lines, Finishes}
 use Rattle.run.specs.declared.desk.Desk.{Desk}
-use Rattle.run_meaning.specs.declared.Ran.TheVariants.{Done, Refused}
+use Rattle.run_meaning.specs.declared.RunRefused.TheVariants.{Stream as OfStream}
 use Rattle.run_meaning.specs.declared.Why.TheVariants.{Space}
 use Rattle.run_meaning.proofs.FlatStream.{encode-flat}
 
@@ -94,7 +94,7 @@ module _ (w dir names : List ℕ) (d : Desk) (sane : Sane w d) (long : length di
     space-decides =
         room-is (take n dir) (take k names) (take lo w) (drop hi w) (length space) (omega (arith, entries-long, sane.entries)) (omega (arith, names-long, sane.decks))
 
-    pub finish-crowded : has ≡ false → Finishes w dir names d space new (Refused Space 0)
+    pub finish-crowded : has ≡ false → Finishes w dir names d space new (Err (OfStream Space 0))
     finish-crowded said decks flags s held =
         let less = leb-false (length words) (length space) (space-decides ∙ sym has-is ∙ said) in
         let kept : new ≡ space = into-all ∙ sym (into-kept (take n dir) (take k names) (take lo w) (drop hi w) space (sym has-is ∙ said)) in
@@ -102,14 +102,14 @@ module _ (w dir names : List ℕ) (d : Desk) (sane : Sane w d) (long : length di
         let u : after_lines (length space) (ended s) ≡ from_updated (not_updated Space 0) = ap (λ (b : Bool). from_updated (if b then not_updated Space 0 else updated s.lib)) q in
         record { answer = ap ran (sym u); written = kept ∙ ap (λ r. run_into r space) (sym u) }
 
-    pub finish-written : has ≡ true → Finishes w dir names d space new (Done total)
+    pub finish-written : has ≡ true → Finishes w dir names d space new (Ok total)
     finish-written said decks flags s held =
         let fits = leb-true (length words) (length space) (space-decides ∙ sym has-is ∙ said) in
         let e : new ≡ words ++ drop (length words) space = into-all ∙ into-is (take n dir) (take k names) (take lo w) (drop hi w) space (sym has-is ∙ said) in
         let q : ltb (length space) (length (encode s.lib)) ≡ false = no (ltb (length space) (length (encode s.lib))) (λ t. let lt : length space < length (encode s.lib) = ltb→lt (length space) (length (encode s.lib)) t in omega (arith, image-long, total-is decks flags s held)) in
         let u : after_lines (length space) (ended s) ≡ from_updated (updated s.lib) = ap (λ (b : Bool). from_updated (if b then not_updated Space 0 else updated s.lib)) q in
         record {
-          answer = ap Done (sym (total-is decks flags s held)) ∙ ap ran (sym u);
+          answer = ap Ok (sym (total-is decks flags s held)) ∙ ap ran (sym u);
           written = e ∙ ap (λ (x : List ℕ). x ++ drop (length x) space) (image-is decks flags s held) ∙ ap (λ r. run_into r space) (sym u);
         }
       where

@@ -1,16 +1,15 @@
 -- The names of a YANK line, one by one: 26 and 27 by the directory and the deck list, over the whole line.
-use Rattle.std.specs.Prelude.{Some, None, Result, Err}
+use Rattle.std.specs.Prelude.{Result, Err}
+use Rattle.std.specs.List.{list_any}
 use Prim.Native.Nat.{ℕ, ◌+◌}
 use mathlib.Core.Path.{◌≡◌, refl, sym, ap, ap₂, ◌∙◌, subst}
 use mathlib.Core.Bool.{Bool, true, false, ◌||◌, not}
-use mathlib.Core.List.{List}
+use mathlib.Core.List.{List, [], ◌∷◌}
 use lib.Dec.{eqb}
 use lib.ListN.{length, take}
 use Rattle.words.specs.Base.{any, member}
 use Rattle.words_lines.specs.Directive.{directive, field, yank_names}
-use Rattle.words_lines.specs.Reading.{next_name}
 use Rattle.words_lines.specs.declared.Line.TheVariants.{Yank as YankLine}
-use Rattle.words_lines.specs.declared.NameAt.{NameAt}
 use Rattle.words_lines.proofs.FieldNames.{names_from, names_more, names-none, yank-names}
 use Rattle.library.specs.Library.{Library, reserved, entry_of}
 use Rattle.run_meaning.specs.Step.{State, Step, refused, refuse, limited, is_set, is_unknown, is_no_set, after_yank, obey, step}
@@ -42,21 +41,10 @@ module _ (directory : List ℕ) (w : ℕ) where
   pub no-set-entry : (n : ℕ) (list : List ℕ) → member w list ≡ false → (r : ℕ) → r ≡ entry_of directory w → eqb r n ≡ no_set_in n directory list w
   no-set-entry n list e r f = ap (λ (m : ℕ). eqb m n) f ∙ sym (ap (λ (b : Bool). b || eqb (entry_of directory w) n) e)
 
--- A FIELD OF NAMES, from a place on
-module _ (q : ℕ → Bool) (f : List ℕ) where
-  pub names-start : any q (names_in f) ≡ any q (names_from f 0)
-  unfolding names_from
-  names-start = refl
-
-  module _ (at : ℕ) where
-    pub names-here : (n : NameAt) → next_name f at ≡ Some n → q n.word ≡ true → any q (names_from f at) ≡ true
-    names-here n e h = ap (any q) (names_more f at n e) ∙ ap (λ (b : Bool). b || any q (names_from f n.next)) h
-
-    pub names-on : (n : NameAt) → next_name f at ≡ Some n → q n.word ≡ false → any q (names_from f at) ≡ any q (names_from f n.next)
-    names-on n e h = ap (any q) (names_more f at n e) ∙ ap (λ (b : Bool). b || any q (names_from f n.next)) h
-
-    pub names-over : next_name f at ≡ None → any q (names_from f at) ≡ false
-    names-over e = ap (any q) (names-none f at e)
+-- A FIELD OF NAMES: the library's test of a list is the same
+pub any-listed : (q : ℕ → Bool) (ns : List ℕ) → list_any q ns ≡ any q ns
+any-listed q [] = refl
+any-listed q (n ∷ ns) = ap (λ (b : Bool). q n || b) (any-listed q ns)
 
 -- A YANK LINE
 module _ (s : State) (line : List ℕ) (asks : directive line ≡ YankLine) (set unknown barred : Bool) (is : is_set s.kind ≡ set)

@@ -1,9 +1,9 @@
 // YANK (RULES, "Corrections"): its line becomes the last card of YANK$$$; and the bits that change with YANK$$$.
-ghost use Rattle.std.specs.Prelude.{◌≡◌, ℕ, Bool, ◌+◌, ◌^◌, ◌≤◌, ◌<◌, length, take};
+ghost use Rattle.std.specs.Prelude.{◌≡◌, ◌+◌, ◌≤◌, ◌<◌, length, take};
 ghost use Rattle.words.specs.Base.{any};
 ghost use Rattle.run.specs.Desk.{Sane, SaneAfter};
 ghost use Rattle.run.specs.Resettled.{Resettled, YankSteps};
-ghost use Rattle.run.specs.YankNames.{names_in, no_set_in, LeadAfter, PutsYank};
+ghost use Rattle.run.specs.YankNames.{names_in, unknown_in, no_set_in, LeadAfter, PutsYank};
 
 use crate::desk::{Desk, TextAt, limited};
 use crate::gap::open_at;
@@ -23,19 +23,20 @@ fn is_no_set(dir: &[u64], n: usize, names: &[u64], k: usize, w: u64) -> bool
     entry_of(dir, n, w) == n
 }
 
-// Whether one of a field's names passes a test.
-fn any_name<F: Fn(u64) -> bool>(field: &[u8], test: F) -> bool
-    requires { F.IsAlwaysCallable test }
-    ensures { (q : ℕ → Bool) → ((w : ℕ) (r : Bool) → w < 2 ^ 64 → F.post test w r → r ≡ q w) → result ≡ any q (names_in field.now) }
+// 26 over a whole field of names.
+fn any_unknown(dir: &[u64], n: usize, field: &[u8]) -> bool
+    requires { n ≤ length dir.now }
+    ensures { result ≡ any (unknown_in (take n dir.now)) (names_in field.now) }
 {
-    let mut at = 0;
-    while let Some(name) = words_lines_asked::next_name(field, at) {
-        if test(name.word) {
-            return true;
-        }
-        at = name.next;
-    }
-    false
+    words_lines_asked::names_of(field).any(|w| is_unknown(dir, n, w))
+}
+
+// 27 over a whole field of names.
+fn any_no_set(dir: &[u64], n: usize, names: &[u64], k: usize, field: &[u8]) -> bool
+    requires { (n ≤ length dir.now) × (k ≤ length names.now) }
+    ensures { result ≡ any (no_set_in n (take n dir.now) (take k names.now)) (names_in field.now) }
+{
+    words_lines_asked::names_of(field).any(|w| is_no_set(dir, n, names, k, w))
 }
 
 // The line as a card at the end of YANK$$$, under the flags of before; text then goes nowhere.
@@ -96,10 +97,10 @@ pub(crate) fn yank_step(
     let n = d.entries;
     let k = d.decks + 1;
     let field = words_lines::field_of(line);
-    if any_name(field, |w| is_unknown(dir, n, w)) {
+    if any_unknown(dir, n, field) {
         return Err(Why::Unknown);
     }
-    if any_name(field, |w| is_no_set(dir, n, names, k, w)) {
+    if any_no_set(dir, n, names, k, field) {
         return Err(Why::NoSet);
     }
     let e = put_yank(w, d, line)?;

@@ -56,8 +56,8 @@ offset_bounds-w-lo c = let p = c.requires in bytes_fit _ _ (order-on _ _ _ p.0.0
 pub bounds-w-lo : goal.bounds-w-lo
 bounds-w-lo c = head-below _ _ _ c.requires.0.0 c.requires.0.1 c.requires.1.0 _ c.if-hi-lo.false
 
-pub slice_bounds-put_words-end : goal.slice_bounds-put_words-end
-slice_bounds-put_words-end c =
+pub slice_bounds-put-end : goal.slice_bounds-put-end
+slice_bounds-put-end c =
     let a = c.args in
     sym (length-take-le a.k a.text.now c.requires.1.1.0)
 
@@ -73,7 +73,7 @@ overflow_add-result-3 c = text-fits _ _ _ c.requires.0.0 c.requires.0.1 c.requir
 pub shape_of-w : goal.shape_of-w
 shape_of-w c =
     let a = c.args in
-    omega (arith, c.put_words.auto.out, length-set a.w.now a.g.lo (new_head a.k a.seq a.n))
+    omega (arith, c.put.auto.out, length-set a.w.now a.g.lo (new_head a.k a.seq a.n))
 
 pub returns : goal.returns
 returns c =
@@ -81,6 +81,6 @@ returns c =
     let p = c.requires in record {
       hi_in_bounds = (p.0.1, text-near _ _ _ p.0.0 p.0.1 p.1.0 _ p.1.1.1.0);
       puts_card = work-put a.w.now a.g a.text.now a.k a.seq a.n p.0 p.1.1.0 p.1.1.1.0 p.1.1.1.1.0
-          p.1.1.1.1.1 _ _ (rw c.put_words.ensures
+          p.1.1.1.1.1 _ _ (rw c.put.ensures
           (put-copied a.w.now a.g a.text.now a.k a.seq a.n p.0 p.1.1.0 c.if-hi-lo.false));
     }
