@@ -4,9 +4,11 @@ use native.Mathlib.Omega.{arith}
 use native.Mathlib.Nat.{mul-le-mul_right}
 use mathlib.Core.Path.{◌≡◌, ap, ◌∙◌}
 use mathlib.Core.Bool.{Bool, ◌&&◌}
+use lib.ListN.{get_or}
 use lib.Dec.{T, eqb, eqb→eq, ltb, ltb→lt}
 use Rattle.words.specs.Base.{all}
 use Rattle.words_text_form.specs.Form.{step, fields_of, columns_in}
+use Rattle.words_text_form.specs.declared.form.TheConstants.{FIELDS}
 use Rattle.words.proofs.TestParts.{and_left, and_right}
 use Rattle.words.proofs.EveryPlace.{from, below}
 
@@ -31,6 +33,14 @@ next-held v c x m h l is =
     let b : step s c < 10 = ltb→lt (step s c) 10 (and_right (eqb (fields_of c / 2 ^ (6 * s) % 64) (6 * step s c)) (ltb (step s c) 10) t) in
     let q : x / 2 ^ v % 64 ≡ 6 * step s c = (λ i. is i / 2 ^ e i % 64) ∙ a in
     (q, omega arith)
+
+-- the table has the fields of each code
+abbrev right-fields : ℕ → Bool
+right-fields c = eqb (get_or FIELDS c 0) (fields_of c)
+
+pub held-at : (c : ℕ) → c < 64 → get_or FIELDS c 0 ≡ fields_of c
+unfolding fields_of
+held-at c h = eqb→eq (get_or FIELDS c 0) (fields_of c) (below right-fields 64 c tt h)
 
 -- THE COLUMNS
 abbrev brings : ℕ → ℕ → ℕ
