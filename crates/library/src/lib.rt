@@ -51,7 +51,7 @@ pub struct Refusal {
 }
 
 // What is seen of a card: where its text starts and ends, its owner and number, whether its bit says active.
-#[derive(Clone, Copy)]
+#[derive(Clone, Copy, PartialEq, Eq)]
 pub struct Seen {
     pub text: usize,
     pub next: usize,
@@ -61,7 +61,7 @@ pub struct Seen {
 }
 
 // A line as a deck card's: none, one of wrong form, or that of a normal or common deck of this name.
-#[derive(Clone, Copy)]
+#[derive(Clone, Copy, PartialEq, Eq)]
 pub enum DeckLine {
     NotDeck,
     BadDeck,
