@@ -1,6 +1,5 @@
 -- A list split at the elements that pass a test, and a question put to each part. Assumes nothing.
 --   the parts from a place on     parts_from, parts_none, parts-here, parts_more, part-fits
---   all of them                   all_none, all-next, all-not
 --   in the library's words        split-slice, any-list, all-list, same-bytes
 use Rattle.std.specs.Prelude.{cond, if◌then◌else◌}
 use Rattle.std.specs.List.{list_any, list_all, slice_split, onto_first}
@@ -56,17 +55,6 @@ module _ (p : ℕ → Bool) where
     parts_more =
         let here : parts_from p at s ≡ split p (drop at s) = parts-here at s inside in
         rw (here, parts-drop at (length part + 1) s inside, is) (split-first (drop at s))
-
-    module _ (q : List ℕ → Bool) where
-      pub all-next : q part ≡ true → all q (parts_from p at s) ≡ all q (parts_from p (at + (length part + 1)) s)
-      all-next holds = rw (parts_more, holds)
-
-      pub all-not : q part ≡ false → all q (parts_from p at s) ≡ false
-      all-not fails = rw (parts_more, fails)
-
-  module _ (at : ℕ) (s : List ℕ) (past : length s < at) (q : List ℕ → Bool) where
-    pub all_none : all q (parts_from p at s) ≡ true
-    all_none = rw (parts_none at s past)
 
 -- IN THE LIBRARY'S WORDS
 module _ {A : Type 0} (p q : A → Bool) (equal : (x : A) → p x ≡ q x) where

@@ -1,6 +1,4 @@
 -- Columns put one after the other behind those that are there.
 pub mod ColumnsBehind
--- Where words are text, their line has at most 80 columns.
-pub mod ExpandAnswer
 -- The columns that codes say, one code at a time, are the columns of the codes.
 pub mod SaidColumns

@@ -5,6 +5,7 @@ use mathlib.Core.Path.{◌≡◌, refl, sym, ap, ◌∙◌, subst}
 use mathlib.Core.Bool.{Bool, true, false}
 use mathlib.Core.List.{List, [], ◌∷◌, ◌++◌, map, append_assoc, append-nil}
 use borrow.Author.Tests.{ne_eqb}
+use lib.Dec.{leb→le}
 use lib.ListN.{length, get_or, take, drop, replicate, length-append}
 use lib.Seq.{length-take-le}
 use Rattle.words.specs.Base.{all, is_word}
@@ -15,7 +16,7 @@ use Rattle.words_text_expand.specs.declared.say.Ahead.{Ahead}
 use Rattle.words_text_expand.specs.declared.say.Ahead.TheVariants.{Alone, Past}
 use Rattle.words.proofs.TestParts.{T-true}
 use Rattle.words.proofs.TrimmedLine.{blank-letter}
-use Rattle.words_text_expand.proofs.ExpandAnswer.{text-fits}
+use Rattle.words.proofs.TextTrip.{text-short}
 use Rattle.words_text_expand.proofs.ColumnsBehind.{same-beyond, Placed}
 use Rattle.words.proofs.AllPass.{passes, stops}
 use Rattle.words_text_form.proofs.OneForm.{text-words}
@@ -153,7 +154,7 @@ text-start ws c h l = record {
   words = T-true (all is_word ws) (text-words ws h);
   toward = record {
     long = refl;
-    fits = omega (arith, ap length (says-codes ws), text-fits ws h);
+    fits = omega (arith, ap length (says-codes ws), leb→le (length (says ws)) 80 (text-short ws h));
     owed = says-codes ws;
     rest = refl;
   };
