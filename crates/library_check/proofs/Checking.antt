@@ -1,12 +1,12 @@
 -- The rows together: each answers for the cards that were read, and the flags are those of the library read. Assumes nothing.
---   or_at, or-on                  a row's fault, or what comes after it
+--   row_at, row-on                a row's fault, or what comes after it
 --   card-lower, card-known        what rows 5, 6 and 8 say of a card of YANK$$$
 --   first-ahead                   the cards of YANK$$$ are those ahead of the first deck card
 --   flags-right                   the flags are what is yanked
 --   row9-flags                    row 9 under flags
---   row7-found, yank-at, twice-at, bit_at, none-at        the rows of the cards that were read
+--   row7-found, yank-at, twice-at, bit_at        the rows of the cards that were read
 --   first-refused, first-none, first-sound, after-rows     rows 1 to 6 ahead of them
-use Rattle.std.specs.Prelude.{if◌then◌else◌}
+use Rattle.std.specs.Prelude.{Option as Place, Result, Ok, Err, if◌then◌else◌}
 use Prim.Native.Nat.{ℕ, ◌+◌, ◌-◌, ◌%◌, ◌^◌, ◌≤◌, ◌<◌}
 use native.Mathlib.Omega.{arith}
 use mathlib.Core.Path.{◌≡◌, refl, sym, ap, ap₂, ◌∙◌, subst}
@@ -16,7 +16,6 @@ use mathlib.Core.Option.{Option, none, some}
 use lib.Dec.{eqb, ltb, leb}
 use lib.ListN.{length, get_or, take, drop, length-take, length-drop}
 use borrow.Author.Tests.{eqb-true, ltb-true, leb-true}
-use Rattle.library_cards.proofs.TablesThenCards.{not_sound_lem}
 use Rattle.words.specs.Base.{any, all, member}
 use Rattle.words.proofs.TestParts.{true-T, T-true}
 use Rattle.words_lines.specs.Directive.{directive}
@@ -28,10 +27,8 @@ use Rattle.library.specs.Settled.{NamesLower}
 use Rattle.library.specs.Check.{Checking, good, checked, or_else, Cards, cards, fault, directory_count, deck_count, directory_of, deck_words_of, cards_place, check_cards, check, row1, row2, row3, row4, row10, Stored, Fields, fields_of, byte_of, rising, ok_byte, first_activates, form_tests, part_at, parted_by, library_of, is_deck_line, is_deck_card, ok_deck_card, row7, ahead_of_decks, first_failing, ok_target, ok_yank, row8, ok_bits, row9_from, row9}
 use Rattle.library.specs.declared.Fault.{Fault}
 use Rattle.library.specs.declared.Fault.TheVariants.{Size, Header, Tables, Name, Yank as YankFault, Bit, Twice}
-use Rattle.library.specs.declared.Found.{Found}
-use Rattle.library.specs.declared.Found.TheVariants.{At, Nothing}
-use Rattle.library.specs.declared.Checked.{Checked}
-use Rattle.library.specs.declared.Checked.TheVariants.{Sound, Refused}
+use Rattle.library.specs.declared.Refusal.{Refusal}
+use Rattle.library.specs.Refused.{refused_at}
 use Rattle.library.proofs.EachTest.{each_map, each_two, each-of-map}
 use Rattle.library.proofs.AnyAndAll.{no_true, any-map}
 use Rattle.library.proofs.OneSolution.{settled-solves}
@@ -40,7 +37,7 @@ use Rattle.library_tables.specs.Found.{found, Sized, Tabled, refused_by}
 use Rattle.library_cards.specs.Found.{cards_answer, cards_read, first_rows}
 use Rattle.library.proofs.CardWithin.{all_pass}
 use Rattle.library_tables.proofs.TableCounts.{sized, tabled}
-use Rattle.library_tables.proofs.FirstFault.{found_none}
+use Rattle.library_tables.proofs.FirstFault.{refused-on}
 use Rattle.library_tables.proofs.TableWords.{entries-are}
 use Rattle.library_yanks.specs.Bytes.{part, flagged}
 use Rattle.library_yanks.specs.Flags.{names_in, settled_flags}
@@ -54,14 +51,21 @@ use Rattle.library_check.proofs.Spanning.{walks-span}
 use Rattle.library_check.proofs.Telling.{rising-each, history-raw}
 use Rattle.library_check.proofs.Cutting.{cut_at}
 
--- A ROW'S FAULT
-pub or_at : (f : Fault) (o : Option ℕ) (r : Checking) (p : ℕ) → found o ≡ At p → Refused f p ≡ checked (or_else f o r)
-or_at f none r p e = absurd (let z : ◌≡◌ {A = ℕ} 0 1 = cc in omega arith)
-or_at f (some q) r p e = let s : p ≡ q = cc in ap (Refused f) s
+-- WHAT THE CHECK ANSWERS: a row's fault, or what comes after it
+abbrev Checked : Type 0
+Checked = Result (Unit {0}) Refusal
 
-pub or-on : (f : Fault) (o : Option ℕ) (r : Checking) → found o ≡ Nothing → checked r ≡ checked (or_else f o r)
-or-on f none r e = refl
-or-on f (some q) r e = absurd (let z : ◌≡◌ {A = ℕ} 0 1 = cc in omega arith)
+pub row_at : (f : Fault) (o : Option ℕ) (r : Checking) (e : Refusal) → refused_at f (found o) ≡ Err e → Err e ≡ checked (or_else f o r)
+row_at f none r e h = absurd cc
+row_at f (some q) r e h = sym h
+
+pub row-on : (f : Fault) (o : Option ℕ) (r : Checking) → refused_at f (found o) ≡ Ok tt → checked r ≡ checked (or_else f o r)
+row-on f none r h = refl
+row-on f (some q) r h = absurd cc
+
+row_last : (f : Fault) (o : Option ℕ) (l : Library) → refused_at f (found o) ≡ checked (or_else f o (good l))
+row_last f none l = refl
+row_last f (some q) l = refl
 
 -- A CARD OF YANK$$$
 span-walks : (d ws : List ℕ) (at end : ℕ) (ss : List Stored) → Spans d ws at end ss → Each (λ s. (n : ℕ) × Walk d ws n s) ss
@@ -220,7 +224,7 @@ module _ (d dw ws : List ℕ) (from : ℕ) (inside : from ≤ length ws) (ss : L
   spans : Spans d ws from (length ws) ss
   spans = walks-span d ws from ss inside read.walks
 
-  pub row7-found : (r : Found) → Row7 d dw ws from r → r ≡ found (row7 d (drop 1 dw) ss (length ws))
+  pub row7-found : (r : Place ℕ) → Row7 d dw ws from r → r ≡ found (row7 d (drop 1 dw) ss (length ws))
   row7-found r h = h ss spans
 
   module _ (end : ℕ) (within : end ≤ length ws) (ends : CardsEnd ws from end) where
@@ -230,41 +234,39 @@ module _ (d dw ws : List ℕ) (from : ℕ) (inside : from ≤ length ws) (ss : L
     abbrev last : Checking
     last = or_else Bit (row9 whole ss) (good whole)
 
-    row8-found : (r : Found) → Row8 d dw ws from end r → r ≡ found (row8 d dw ss)
+    row8-found : (r : Place ℕ) → Row8 d dw ws from end r → r ≡ found (row8 d dw ss)
     row8-found r h = h (ahead_of_decks ss) (ends d ss spans)
 
-    row10-found : (r : Found) → Row10 ws from r → r ≡ found (row10 ss)
+    row10-found : (r : Place ℕ) → Row10 ws from r → r ≡ found (row10 ss)
     row10-found r h = h d ss spans read.count
 
-    row9-found : row7 d (drop 1 dw) ss (length ws) ≡ none → row8 d dw ss ≡ none → (r : Found) → RowBits d ws from end r → r ≡ found (row9 whole ss)
+    row9-found : row7 d (drop 1 dw) ss (length ws) ≡ none → row8 d dw ss ≡ none → (r : Place ℕ) → RowBits d ws from end r → r ≡ found (row9 whole ss)
     row9-found no7 no8 r h =
         h d ss spans
         ∙ ap found (row9-flags (yanked whole) (flagged (settled_flags d (part from end ws) 1024)) (flags-right d dw ws from end ss within read.few read.short no7 no8 (ends d ss spans)) 0 ss)
 
     -- a row's fault after those that passed
-    module _ (y : Found) (row-y : Row8 d dw ws from end y) where
-      pub yank-at : (p : ℕ) → y ≡ At p → Refused YankFault p ≡ checked (after_decks d dw ss)
-      yank-at p e = or_at YankFault (row8 d dw ss) (or_else Twice (row10 ss) last) p (sym (row8-found y row-y) ∙ e)
+    module _ (y : Place ℕ) (row-y : Row8 d dw ws from end y) where
+      yanks-are : refused_at YankFault (found (row8 d dw ss)) ≡ refused_at YankFault y
+      yanks-are = ap (refused_at YankFault) (sym (row8-found y row-y))
 
-      module _ (no-y : y ≡ Nothing) (t : Found) (row-t : Row10 ws from t) where
+      pub yank-at : (e : Refusal) → refused_at YankFault y ≡ Err e → Err e ≡ checked (after_decks d dw ss)
+      yank-at e h = row_at YankFault (row8 d dw ss) (or_else Twice (row10 ss) last) e (yanks-are ∙ h)
+
+      module _ (no-y : refused_at YankFault y ≡ Ok tt) (t : Place ℕ) (row-t : Row10 ws from t) where
         on-y : checked (or_else Twice (row10 ss) last) ≡ checked (after_decks d dw ss)
-        on-y = or-on YankFault (row8 d dw ss) (or_else Twice (row10 ss) last) (sym (row8-found y row-y) ∙ no-y)
+        on-y = row-on YankFault (row8 d dw ss) (or_else Twice (row10 ss) last) (yanks-are ∙ no-y)
 
-        pub twice-at : (p : ℕ) → t ≡ At p → Refused Twice p ≡ checked (after_decks d dw ss)
-        twice-at p e = or_at Twice (row10 ss) last p (sym (row10-found t row-t) ∙ e) ∙ on-y
+        twices-are : refused_at Twice (found (row10 ss)) ≡ refused_at Twice t
+        twices-are = ap (refused_at Twice) (sym (row10-found t row-t))
 
-        module _ (no-t : t ≡ Nothing) (no7 : row7 d (drop 1 dw) ss (length ws) ≡ none) (b : Found) (row-b : RowBits d ws from end b) where
-          on-t : checked last ≡ checked (after_decks d dw ss)
-          on-t = or-on Twice (row10 ss) last (sym (row10-found t row-t) ∙ no-t) ∙ on-y
+        pub twice-at : (e : Refusal) → refused_at Twice t ≡ Err e → Err e ≡ checked (after_decks d dw ss)
+        twice-at e h = row_at Twice (row10 ss) last e (twices-are ∙ h) ∙ on-y
 
-          bits : b ≡ found (row9 whole ss)
-          bits = row9-found no7 (found_none (row8 d dw ss) (sym (row8-found y row-y) ∙ no-y)) b row-b
-
-          pub bit_at : (p : ℕ) → b ≡ At p → Refused Bit p ≡ checked (after_decks d dw ss)
-          bit_at p e = or_at Bit (row9 whole ss) (good whole) p (sym bits ∙ e) ∙ on-t
-
-          pub none-at : b ≡ Nothing → Sound ≡ checked (after_decks d dw ss)
-          none-at e = or-on Bit (row9 whole ss) (good whole) (sym bits ∙ e) ∙ on-t
+        pub bit_at : refused_at Twice t ≡ Ok tt → row7 d (drop 1 dw) ss (length ws) ≡ none → (b : Place ℕ) → RowBits d ws from end b → refused_at Bit b ≡ checked (after_decks d dw ss)
+        bit_at no-t no7 b row-b =
+            ap (refused_at Bit) (row9-found no7 (refused-on YankFault (row8 d dw ss) (yanks-are ∙ no-y)) b row-b) ∙ row_last Bit (row9 whole ss) whole
+            ∙ row-on Twice (row10 ss) last (twices-are ∙ no-t) ∙ on-y
 
 -- ROWS 1 TO 6 ahead of them
 module _ (d dw : List ℕ) (end : ℕ) where
@@ -274,26 +276,26 @@ module _ (d dw : List ℕ) (end : ℕ) where
   abbrev first-ones : Option ℕ → Option ℕ → Option ℕ → Option ℕ → Cards → Checked
   first-ones a b c e r = refused_by Size a (refused_by Header b (refused_by Tables c (refused_by Name e (cards_answer r))))
 
-  refused_as : (a b c e : Option ℕ) (r : Cards) (f : Fault) (p : ℕ) → first-ones a b c e r ≡ Refused f p → Refused f p ≡ checked (all-rows a b c e r)
-  refused_as (some q) b c e r f p h = sym h
-  refused_as none (some q) c e r f p h = sym h
-  refused_as none none (some q) e r f p h = sym h
-  refused_as none none none (some q) r f p h = sym h
-  refused_as none none none none (fault g q) f p h = sym h
-  refused_as none none none none (cards ss) f p h = not_sound_lem f p (sym h)
+  refused_as : (a b c e : Option ℕ) (r : Cards) (f : Refusal) → first-ones a b c e r ≡ Err f → Err f ≡ checked (all-rows a b c e r)
+  refused_as (some q) b c e r f h = sym h
+  refused_as none (some q) c e r f h = sym h
+  refused_as none none (some q) e r f h = sym h
+  refused_as none none none (some q) r f h = sym h
+  refused_as none none none none (fault g q) f h = sym h
+  refused_as none none none none (cards ss) f h = absurd cc
 
-  sound-as : (a b c e : Option ℕ) (r : Cards) → first-ones a b c e r ≡ Sound → (o : Checked) → ((ss : List Stored) → r ≡ cards ss → o ≡ checked (check_cards d dw end (cards ss))) → o ≡ checked (all-rows a b c e r)
-  sound-as (some q) b c e r h o on = not_sound_lem Size q h
-  sound-as none (some q) c e r h o on = not_sound_lem Header q h
-  sound-as none none (some q) e r h o on = not_sound_lem Tables q h
-  sound-as none none none (some q) r h o on = not_sound_lem Name q h
-  sound-as none none none none (fault g q) h o on = not_sound_lem g q h
+  sound-as : (a b c e : Option ℕ) (r : Cards) → first-ones a b c e r ≡ Ok tt → (o : Checked) → ((ss : List Stored) → r ≡ cards ss → o ≡ checked (check_cards d dw end (cards ss))) → o ≡ checked (all-rows a b c e r)
+  sound-as (some q) b c e r h o on = absurd cc
+  sound-as none (some q) c e r h o on = absurd cc
+  sound-as none none (some q) e r h o on = absurd cc
+  sound-as none none none (some q) r h o on = absurd cc
+  sound-as none none none none (fault g q) h o on = absurd cc
   sound-as none none none none (cards ss) h o on = on ss refl
 
-  passed : (a b c e : Option ℕ) (r : Cards) → first-ones a b c e r ≡ Sound → (a ≡ none) × (c ≡ none)
-  passed (some q) b c e r h = not_sound_lem Size q h
-  passed none (some q) c e r h = not_sound_lem Header q h
-  passed none none (some q) e r h = not_sound_lem Tables q h
+  passed : (a b c e : Option ℕ) (r : Cards) → first-ones a b c e r ≡ Ok tt → (a ≡ none) × (c ≡ none)
+  passed (some q) b c e r h = absurd cc
+  passed none (some q) c e r h = absurd cc
+  passed none none (some q) e r h = absurd cc
   passed none none none e r h = (refl, refl)
 
 module _ (ws : List ℕ) where
@@ -303,15 +305,15 @@ module _ (ws : List ℕ) where
   abbrev L : List ℕ
   L = deck_words_of ws
 
-  pub first-refused : (f : Fault) (p : ℕ) → first_rows ws ≡ Refused f p → Refused f p ≡ checked (check ws)
+  pub first-refused : (f : Refusal) → first_rows ws ≡ Err f → Err f ≡ checked (check ws)
   unfolding first_rows check
-  first-refused f p h = refused_as D L (length ws) (row1 ws) (row2 ws) (row3 ws) (row4 ws) (cards_read ws) f p h
+  first-refused f h = refused_as D L (length ws) (row1 ws) (row2 ws) (row3 ws) (row4 ws) (cards_read ws) f h
 
-  pub first-none : first_rows ws ≡ Sound → Sized ws × Tabled ws
+  pub first-none : first_rows ws ≡ Ok tt → Sized ws × Tabled ws
   unfolding first_rows
   first-none h = let q = passed D L (length ws) (row1 ws) (row2 ws) (row3 ws) (row4 ws) (cards_read ws) h in (sized ws q.0, tabled ws q.1)
 
-  pub first-sound : first_rows ws ≡ Sound → (r : Checked) → AfterRows ws r → r ≡ checked (check ws)
+  pub first-sound : first_rows ws ≡ Ok tt → (r : Checked) → AfterRows ws r → r ≡ checked (check ws)
   unfolding first_rows check
   first-sound h r on = sound-as D L (length ws) (row1 ws) (row2 ws) (row3 ws) (row4 ws) (cards_read ws) h r on
 

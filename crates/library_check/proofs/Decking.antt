@@ -1,24 +1,29 @@
 -- Deck cards: a step of row 7 for each way out. Assumes nothing.
 --   begins-is                              a line as a deck card's
---   titled-..                              the card against the list's word
+--   next-is                                the card against the list's word
 --   shown-.., none-ok                      a card that was read
 --   Ahead, ahead-..                        the cards ahead of the decks
 --   failing-on, failing-here               a card that passes or fails
 --   row_on, row-taken, row_here            row 7
---   names_more                             the deck list from a place on
+--   names_more, lacking                    the deck list from a place on
 use Rattle.std.specs.Prelude.{if◌then◌else◌}
 use Prim.Native.Nat.{ℕ, ◌+◌, ◌≤◌, ◌<◌}
 use native.Mathlib.Numerals.{add-one}
+use native.Mathlib.Omega.{arith}
+use native.Mathlib.Decide.{dec_le}
+use borrow.Author.Tests.{lt-ltb, le-ltb}
+use Rattle.std.specs.Bool.{then_some}
+use Rattle.library_tables.specs.Found.{found}
 use mathlib.Core.Path.{◌≡◌, refl, sym, ap, ap₂, ◌∙◌, subst}
 use mathlib.Core.Bool.{Bool, true, false, ◌&&◌, not}
 use mathlib.Core.List.{List, [], ◌∷◌}
 use mathlib.Core.Option.{Option, some}
-use lib.Dec.{eqb}
-use lib.ListN.{length, get_or, drop}
+use lib.Dec.{eqb, ltb}
+use lib.ListN.{length, get_or, drop, drop_of_length-le}
 use lib.Seq.{drop-cons}
 use Rattle.words.specs.Base.{is_nil}
 use Rattle.library.specs.Library.{DeckLine, not_deck, bad_deck, deck_of, deck_line, entry_of}
-use Rattle.library.specs.Check.{Stored, is_deck_line, is_deck_card, ok_deck_card, row7, first_failing, ahead_of_decks}
+use Rattle.library.specs.Check.{Stored, is_deck_line, is_deck_card, ok_deck_card, row7, first_failing, ahead_of_decks, fault_if}
 use Rattle.library_image.specs.Places.{seen_at, line_in}
 use Rattle.library_check.specs.Walks.{Walk, Spans}
 use Rattle.library.specs.Asked.{deck_line_of}
@@ -35,20 +40,7 @@ begins-is bad_deck = refl
 begins-is (deck_of true w) = refl
 begins-is (deck_of false w) = refl
 
--- THE CARD AGAINST THE LIST'S WORD: four tests in a row
-module _ (a b c d : Bool) where
-  pub four-first : a ≡ false → false ≡ (((a && b) && c) && d)
-  four-first e = sym (ap (λ (x : Bool). ((x && b) && c) && d) e)
-
-  pub four-second : a ≡ true → b ≡ false → false ≡ (((a && b) && c) && d)
-  four-second e f = sym (ap₂ (λ (x y : Bool). ((x && y) && c) && d) e f)
-
-  pub four-third : a ≡ true → b ≡ true → c ≡ false → false ≡ (((a && b) && c) && d)
-  four-third e f g = sym (ap₂ (λ (x y : Bool). ((x && y) && c) && d) e f ∙ ap (λ (x : Bool). x && d) g)
-
-  pub four-last : a ≡ true → b ≡ true → c ≡ true → d ≡ (((a && b) && c) && d)
-  four-last e f g = sym (ap₂ (λ (x y : Bool). ((x && y) && c) && d) e f ∙ ap (λ (x : Bool). x && d) g)
-
+-- THE CARD AGAINST THE LIST'S WORD
 module _ (d ws : List ℕ) (at : ℕ) (s : Stored) (w : Walk d ws at s) (r : Seen) (sees : r ≡ seen_at ws at) where
   title-is : (x v : ℕ) → titled d at r x v ≡ ((eqb v x && eqb s.card.owner (entry_of d v)) && eqb s.card.seq 1) && is_nil s.card.later
   title-is x v =
@@ -141,3 +133,11 @@ module _ (d names : List ℕ) (end : ℕ) (s : Stored) (ss : List Stored) where
 -- the deck list from a place on
 pub names_more : (list : List ℕ) (k : ℕ) → k < length list → drop k list ≡ get_or list k 0 ∷ drop (k + 1) list
 names_more list k lt = drop-cons list k 0 lt ∙ ap (λ (n : ℕ). get_or list k 0 ∷ drop n list) (sym (add-one k))
+
+-- names of the list that no card was for
+pub lacking : (list : List ℕ) (k end : ℕ) → then_some (ltb k (length list)) end ≡ found (fault_if (not (is_nil (drop k list))) end)
+lacking list k end = go (dec_le (length list) k)
+  where
+    go : Dec (length list ≤ k) → then_some (ltb k (length list)) end ≡ found (fault_if (not (is_nil (drop k list))) end)
+    go (yes le) = rw (le-ltb k (length list) le, drop_of_length-le list le)
+    go (no gt) = let lt : k < length list = omega arith in rw (lt-ltb k (length list) lt, names_more list k lt)

@@ -3,7 +3,7 @@
 --   Listing, list-..                         the keys of the cards, one after another
 --   Placing, place-..                        a card by how many are ahead of it
 --   twice-none, twice-at                     row 10 by the first key that stands twice
-use Rattle.std.specs.Prelude.{if◌then◌else◌}
+use Rattle.std.specs.Prelude.{Some, None, if◌then◌else◌}
 use Prim.Native.Nat.{ℕ, suc, ◌+◌, ◌-◌, ◌*◌, ◌/◌, ◌%◌, ◌^◌, ◌≤◌, ◌<◌}
 use native.Mathlib.Omega.{arith}
 use native.Mathlib.Nat.{add-zero}
@@ -21,7 +21,6 @@ use Rattle.library_index_twice.specs.Twice.{twice_from, first_twice}
 use Rattle.library.specs.Each.{Each}
 use Rattle.library.specs.Check.{Stored, raw_bytes, threes, used, shares_both, row10_from, row10}
 use Rattle.library.specs.declared.Seen.{Seen}
-use Rattle.library.specs.declared.Found.TheVariants.{At, Nothing}
 use Rattle.library_image.specs.Places.{seen_at}
 use Rattle.library_tables.specs.Found.{found}
 use Rattle.library_check.specs.Walks.{Walk, Spans}
@@ -172,10 +171,10 @@ module _ (ws : List ℕ) (from : ℕ) (keys : List ℕ) (n : ℕ) (within : n �
         let e : first_twice (map key_of ss) ≡ k = ap first_twice (listed d ss h m ∙ sym (take_all 16384 (take n keys) (omega arith))) ∙ sym is in
         key-first [] ss tt (all-numbered d ws from (length ws) ss h) ∙ ap (λ (j : ℕ). first_place (drop j ss)) e
 
-  pub twice-none : n ≤ k → Row10 ws from Nothing
+  pub twice-none : n ≤ k → Row10 ws from None
   twice-none le d ss h m =
       let past : length ss ≤ k = omega (arith, count d ss h m) in
       sym (ap found (at_key d ss h m ∙ ap first_place (drop_of_length-le ss past)))
 
-  pub twice-at : k < n → (r : ℕ) → Stands ws from k r → Row10 ws from (At r)
+  pub twice-at : k < n → (r : ℕ) → Stands ws from k r → Row10 ws from (Some r)
   twice-at lt r stands d ss h m = ap found (stands d ss h (omega (arith, count d ss h m)) ∙ sym (at_key d ss h m))

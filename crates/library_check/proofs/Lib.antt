@@ -6,8 +6,6 @@ pub mod Spanning
 pub mod Showing
 -- Stored bytes say what the history says: unused bytes are zero and say nothing.
 pub mod Telling
--- A card's bytes looked at one after another, for their yank bits: one law for each way out.
-pub mod Weighing
 -- Deck cards: a step of row 7 for each way out.
 pub mod Decking
 -- The names of a YANK line, one by one: what row 8 asks of each.

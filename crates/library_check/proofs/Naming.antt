@@ -1,16 +1,16 @@
 -- The names of a YANK line, one by one: what row 8 asks of each. Assumes nothing.
 --   not-member                          a name without a number
---   name-none, name-high, name-lower, param-told    a name that may be yanked
---   yank-field, yank-same, yank-line-not            a line of names
+--   name-lower                          a name that may be yanked
+--   yank-field, yank-same               a line of names
 --   shown-yank                          a card that was read
 use Rattle.std.specs.Prelude.{if◌then◌else◌}
-use Prim.Native.Nat.{ℕ, suc, ◌≤◌, ◌<◌}
+use Prim.Native.Nat.{ℕ, suc, ◌<◌}
 use native.Mathlib.Omega.{arith}
 use mathlib.Core.Path.{◌≡◌, refl, sym, ap, ap₂, ◌∙◌}
 use mathlib.Core.Bool.{Bool, true, false, ◌&&◌, ◌||◌, not}
 use mathlib.Core.List.{List, [], ◌∷◌, map}
 use lib.Dec.{eqb, ltb}
-use borrow.Author.Tests.{ne_eqb, lt-ltb, le-ltb}
+use borrow.Author.Tests.{ne_eqb, lt-ltb}
 use Rattle.words.specs.Base.{all, member}
 use Rattle.words.specs.Spelt.{word_of_name}
 use Rattle.words_lines.specs.Directive.{directive, params, field}
@@ -45,16 +45,6 @@ module _ (d dw : List ℕ) (own w n : ℕ) (is : n ≡ entry_of d w) where
   abbrev tests : ℕ → Bool
   tests m = ltb 0 m && ltb m own && not (member (name_at d m) dw)
 
-  pub name-none : n ≡ 0 → false ≡ ok_name d dw own w
-  name-none z = sym (ap tests (sym is ∙ z))
-
-  pub name-high : own ≤ n → false ≡ ok_name d dw own w
-  name-high h = sym (ap tests (sym is) ∙ ap (λ (b : Bool). (ltb 0 n && b) && not (member (name_at d n) dw)) (le-ltb n own h) ∙ off (ltb 0 n) (not (member (name_at d n) dw)))
-    where
-      off : (a b : Bool) → ((a && false) && b) ≡ false
-      off true b = refl
-      off false b = refl
-
   pub name-lower : (n ≡ 0 → ⊥) → n < own → (m : ℕ) → m ≡ entry_of dw w → eqb m 0 ≡ ok_name d dw own w
   name-lower z h m stands =
       let p : 0 < n = omega arith in
@@ -63,15 +53,11 @@ module _ (d dw : List ℕ) (own w n : ℕ) (is : n ≡ entry_of d w) where
       ap (λ (k : ℕ). eqb k 0) stands ∙ not-member w dw
       ∙ sym (ap tests (sym is) ∙ ap₂ (λ (a b : Bool). (a && b) && not (member (name_at d n) dw)) (lt-ltb 0 n p) (lt-ltb n own h) ∙ ap (λ (v : ℕ). not (member v dw)) e)
 
--- as the word of a parameter
-pub param-told : (d dw : List ℕ) (own : ℕ) (p : List ℕ) (w : ℕ) (r b : Bool) → w ≡ word_of_name p → r ≡ ok_name d dw own w → r ≡ b → ok_param d dw own p ≡ b
-param-told d dw own p w r b word is e = ap (ok_name d dw own) (sym word) ∙ sym is ∙ e
-
 -- A LINE OF NAMES
 yank-targets : (d l : List ℕ) → is_yank (directive l) ≡ true → targets d l ≡ map (λ w. whole_set (entry_of d w)) (map word_of_name (params (field l)))
 yank-targets d l e = named-targets d l ∙ ap (map (λ w. whole_set (entry_of d w))) (names-yank l e)
 
-all_map : {A B : Type 0} (q : B → Bool) (g : A → B) (xs : List A) → all q (map g xs) ≡ all (λ x. q (g x)) xs
+pub all_map : {A B : Type 0} (q : B → Bool) (g : A → B) (xs : List A) → all q (map g xs) ≡ all (λ x. q (g x)) xs
 all_map q g [] = refl
 all_map q g (x ∷ xs) = ap (λ (b : Bool). q (g x) && b) (all_map q g xs)
 
@@ -87,9 +73,6 @@ module _ (d dw : List ℕ) (own : ℕ) (l : List ℕ) where
 
   pub yank-same : (r : Bool) (k : List ℕ) → r ≡ ok_yank_line d dw own k → k ≡ l → r ≡ ok_yank_line d dw own l
   yank-same r k is e = is ∙ ap (ok_yank_line d dw own) e
-
-  pub yank-line-not : is_yank (directive l) ≡ false → false ≡ ok_yank_line d dw own l
-  yank-line-not e = sym (ap (λ (b : Bool). b && all (ok_target d dw own) (targets d l)) e)
 
 -- A CARD THAT WAS READ
 pub shown-yank : (d dw ws : List ℕ) (at : ℕ) (s : Stored) (w : Walk d ws at s) (r : Seen) → r ≡ seen_at ws at → (b : Bool) → b ≡ ok_yank_line d dw r.owner (line_in ws r.text r.next)

@@ -1,5 +1,4 @@
 use mathlib.Core.Path.{sym, ap, ◌∙◌}
-use native.Mathlib.Omega.{arith}
 use lib.ListN.{length}
 use Rattle.library.specs.Check.{first_failing, ok_bits}
 use Rattle.library_tables.specs.Found.{found}
@@ -15,9 +14,6 @@ loop-at-init c =
     let a = c.args in
     λ d. still-start d a.image.now a.from (length a.image.now) (first_failing (ok_bits (flagged a.flags.now)))
 
-pub card_bits_ok-requires : goal.card_bits_ok-requires
-card_bits_ok-requires c = (c.see-c.ensures.text_le_next.1.1 c.loop-at-test.true, omega (arith, c.see-c.ensures.text_le_next.0, c.see-c.ensures.text_le_next.1.0))
-
 pub returns-then-not-card_bits_ok : goal.returns-then-not-card_bits_ok
 returns-then-not-card_bits_ok c =
     let a = c.args in
@@ -28,9 +24,6 @@ returns-then-not-card_bits_ok c =
     let sees = c.see-c.ensures.value in
     λ d ss h. sym (ap found (still-here d ws a.from (length ws) (first_failing ok) l.at (first_failing ok) (l.invariant d) c.loop-at-test.true _
     (λ s w t. failing-here ok s t l.at (shown-bits d ws l.at s w r sees (flagged a.flags.now) ∙ sym c.card_bits_ok.ensures ∙ c.if-not-card_bits_ok.true) (shown-place d ws l.at s w r sees)) ss h))
-
-pub loop-at-smaller : goal.loop-at-smaller
-loop-at-smaller c = omega (arith, c.see-c.ensures.text_le_next.1.1 c.loop-at-test.true, c.see-c.ensures.text_le_next.0)
 
 pub loop-at-preserved : goal.loop-at-preserved
 loop-at-preserved c =

@@ -19,9 +19,6 @@ returns-then-begins c =
           (λ s w. shown-begins d ws l.at s w r sees c.deck_at.result c.deck_at.ensures ∙ sym c.begins.ensures ∙ c.if-begins.true);
     }
 
-pub loop-at-smaller : goal.loop-at-smaller
-loop-at-smaller c = omega (arith, c.see-c.ensures.text_le_next.1.1 c.loop-at-test.true, c.see-c.ensures.text_le_next.0)
-
 pub loop-at-preserved : goal.loop-at-preserved
 loop-at-preserved c =
     let ws = c.args.image.now in

@@ -1,14 +1,10 @@
 -- The keys that are listed are those of the cards, and the first that stands twice has as many cards ahead as keys. Assumes nothing.
-use mathlib.Core.Path.{◌≡◌, sym}
+use mathlib.Core.Path.{◌≡◌}
 use native.Mathlib.Omega.{arith}
 use lib.ListN.{length}
-use lib.Seq.{length-take-le}
 use Rattle.library_check.proofs.Keying.{twice-none, twice-at}
 use borrow.Author.Rules.{rules}
 use Rattle.library_check.proofs.twice.twice_fault.Goals as goal
-
-pub slice_bounds-first_twice-end : goal.slice_bounds-first_twice-end
-slice_bounds-first_twice-end c = let k = c.list_keys-n in sym (length-take-le k.result k.new.keys k.ensures.upper_bound)
 
 pub returns-then-n-k : goal.returns-then-n-k
 returns-then-n-k c =
