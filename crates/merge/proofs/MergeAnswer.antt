@@ -3,7 +3,7 @@
 --   limit-answer, space-answer, done-answer     31, 32, the words
 --   shared-answer, apart-answer     37, or what comes after it
 --   first-answer, second-answer, sound-answer   the checks
-use Rattle.std.specs.Prelude.{if◌then◌else◌}
+use Rattle.std.specs.Prelude.{if◌then◌else◌, Result, Ok, Err}
 use Prim.Native.Nat.{ℕ, suc, ◌+◌, ◌-◌, ◌≤◌, ◌<◌}
 use native.Mathlib.Omega.{arith}
 use mathlib.Core.Path.{◌≡◌, refl, sym, ap, ap₂, ◌∙◌, subst}
@@ -19,14 +19,13 @@ use Rattle.library.specs.Library.{Library, stream}
 use Rattle.library.specs.Image.{encode, within_limits}
 use Rattle.library.specs.Check.{directory_of, Checking, good, check, checked}
 use Rattle.library.specs.Counts.{within_counts}
-use Rattle.library.specs.declared.Fault.{Fault}
-use Rattle.library.specs.declared.Checked.TheVariants.{Sound as Accepts, Refused as Rejects}
+use Rattle.library.specs.declared.Refusal.{Refusal}
 use Rattle.library.proofs.CheckEncode.{check-encode}
 use Rattle.library.proofs.ImageParts.{accepted-is, rejected-is, read-sound, entries-are, decks-are}
 use Rattle.library.proofs.CardWithin.{placed-within}
 use Rattle.library_image.specs.Places.{places_in}
-use Rattle.merge_meaning.specs.declared.Merged.{Merged}
-use Rattle.merge_meaning.specs.declared.Merged.TheVariants.{Done, First, Second, Shared, Limit, Space}
+use Rattle.merge_meaning.specs.declared.MergeRefused.{MergeRefused}
+use Rattle.merge_meaning.specs.declared.MergeRefused.TheVariants.{First, Second, Shared, Limit, Space}
 use Rattle.merge.specs.declared.parts.Parts.{Parts}
 use Rattle.merge_meaning.specs.Merge.{merge, shared_name, Merging, one_library, over_limit, no_room, fitted_in, from_shared, merge_checked, merging}
 use Rattle.library.specs.Library.{has_name}
@@ -69,26 +68,26 @@ module _ (ws vs : List ℕ) (a b : Parts) (f : Laid ws a) (g : Laid vs b) (l m :
 fitted : (room : ℕ) (l : Library) (x y : Bool) → within_limits l ≡ x → ltb room (length (encode l)) ≡ y → fitted_in room l ≡ (if not x then over_limit else if y then no_room else one_library l)
 fitted room l x y e h = λ i. if not (e i) then over_limit else if h i then no_room else one_library l
 
-pub limit-answer : (space : List ℕ) (l : Library) → within_limits l ≡ false → MergeAnswers (fitted_in (length space) l) space space Limit
+pub limit-answer : (space : List ℕ) (l : Library) → within_limits l ≡ false → MergeAnswers (fitted_in (length space) l) space space (Err Limit)
 limit-answer space l e =
-    subst (λ (x : Merging). MergeAnswers x space space Limit) (sym (fitted (length space) l false (ltb (length space) (length (encode l))) e refl)) (record { answer = refl; written = refl })
+    subst (λ (x : Merging). MergeAnswers x space space (Err Limit)) (sym (fitted (length space) l false (ltb (length space) (length (encode l))) e refl)) (record { answer = refl; written = refl })
 
 -- 32, or the words
 module _ (ws vs space : List ℕ) (l m : Library) (p : check ws ≡ good l) (q : check vs ≡ good m) (n : shared_name l m ≡ none) (t : within_limits (merge l m) ≡ true) where
-  pub space-answer : length space < length ws + length vs - 3 → MergeAnswers (fitted_in (length space) (merge l m)) space space Space
+  pub space-answer : length space < length ws + length vs - 3 → MergeAnswers (fitted_in (length space) (merge l m)) space space (Err Space)
   space-answer lt =
-      subst (λ (x : Merging). MergeAnswers x space space Space)
+      subst (λ (x : Merging). MergeAnswers x space space (Err Space))
       (sym (fitted (length space) (merge l m) true true t (lt-ltb (length space) (length (encode (merge l m))) (omega (arith, lt, long_of ws vs l m p q))))) (record { answer = refl; written = refl })
 
   pub done-answer : length ws + length vs - 3 ≤ length space → (new : List ℕ) → new ≡ merged_words ws vs ++ drop (length (merged_words ws vs)) space
-      → MergeAnswers (fitted_in (length space) (merge l m)) space new (Done (length ws + length vs - 3))
+      → MergeAnswers (fitted_in (length space) (merge l m)) space new (Ok (length ws + length vs - 3))
   done-answer le new w =
       let s : T (within_limits (merge l m)) = true-T (within_limits (merge l m)) t in
       let k : Mergeable l m = record { first = read-sound ws l p; second = read-sound vs m q; apart = n; limits = s } in
       let words : merged_words ws vs ≡ encode (merge l m) = words-merged ws vs l m p q k in
-      subst (λ (x : Merging). MergeAnswers x space new (Done (length ws + length vs - 3)))
+      subst (λ (x : Merging). MergeAnswers x space new (Ok (length ws + length vs - 3)))
       (sym (fitted (length space) (merge l m) true false t (le-ltb (length space) (length (encode (merge l m))) (omega (arith, le, long_of ws vs l m p q)))))
-      (record { answer = ap Done (long_of ws vs l m p q); written = w ∙ ap (λ (x : List ℕ). x ++ drop (length x) space) words })
+      (record { answer = ap Ok (long_of ws vs l m p q); written = w ∙ ap (λ (x : List ℕ). x ++ drop (length x) space) words })
 
 -- 37, ahead of them: a name stands at word 2 or beyond
 module _ (ws vs space : List ℕ) (l m : Library) (p : check ws ≡ good l) (q : check vs ≡ good m) (r : ℕ)
@@ -96,12 +95,12 @@ module _ (ws vs space : List ℕ) (l m : Library) (p : check ws ≡ good l) (q :
   name_of : r ≡ or_none (shared_name l m)
   name_of = is ∙ ap₂ (λ (x y : List ℕ). or_none (place_from (has_name x) 2 y)) (directory-of ws l p) (directory-of vs m q)
 
-  pub shared-answer : (r ≡ 0 → ⊥) → MergeAnswers (from_shared (length space) l m (shared_name l m)) space space (Shared r)
+  pub shared-answer : (r ≡ 0 → ⊥) → MergeAnswers (from_shared (length space) l m (shared_name l m)) space space (Err (Shared r))
   shared-answer d = go (shared_name l m) name_of
     where
-      go : (o : Option ℕ) → r ≡ or_none o → MergeAnswers (from_shared (length space) l m o) space space (Shared r)
+      go : (o : Option ℕ) → r ≡ or_none o → MergeAnswers (from_shared (length space) l m o) space space (Err (Shared r))
       go none h = absurd (d h)
-      go (some k) h = record { answer = ap Shared h; written = refl }
+      go (some k) h = record { answer = ap (λ (k : ℕ). Err (Shared k)) h; written = refl }
 
   none-shared : r ≡ 0 → shared_name l m ≡ none
   none-shared e = go (shared_name l m) refl
@@ -110,7 +109,7 @@ module _ (ws vs space : List ℕ) (l m : Library) (p : check ws ≡ good l) (q :
       go none h = h
       go (some k) h = absurd (omega (arith, e, name_of ∙ ap or_none h, (placed-within (has_name l.directory) 2 m.directory k h).0))
 
-  pub apart-answer : r ≡ 0 → (new : List ℕ) (t : Merged) → (shared_name l m ≡ none → MergeAnswers (fitted_in (length space) (merge l m)) space new t)
+  pub apart-answer : r ≡ 0 → (new : List ℕ) (t : Result ℕ MergeRefused) → (shared_name l m ≡ none → MergeAnswers (fitted_in (length space) (merge l m)) space new t)
       → MergeAnswers (from_shared (length space) l m (shared_name l m)) space new t
   apart-answer e new t h =
       let n = none-shared e in
@@ -118,23 +117,23 @@ module _ (ws vs space : List ℕ) (l m : Library) (p : check ws ≡ good l) (q :
 
 -- THE CHECKS
 module _ (ws vs space : List ℕ) where
-  pub first-answer : (f : Fault) (n : ℕ) → checked (check ws) ≡ Rejects f n → MergeAnswers (merging ws vs (length space)) space space (First f n)
+  pub first-answer : (k : Refusal) → Err k ≡ checked (check ws) → MergeAnswers (merging ws vs (length space)) space space (Err (First k))
   unfolding merging
-  first-answer f n e =
-      subst (λ (x : Checking). MergeAnswers (merge_checked (length space) x (check vs)) space space (First f n)) (sym (rejected-is ws f n e)) (record { answer = refl; written = refl })
+  first-answer k e =
+      subst (λ (x : Checking). MergeAnswers (merge_checked (length space) x (check vs)) space space (Err (First k))) (sym (rejected-is ws k (sym e))) (record { answer = refl; written = refl })
 
-  pub second-answer : (f : Fault) (n : ℕ) → checked (check ws) ≡ Accepts → checked (check vs) ≡ Rejects f n → MergeAnswers (merging ws vs (length space)) space space (Second f n)
+  pub second-answer : (k : Refusal) → Ok tt ≡ checked (check ws) → Err k ≡ checked (check vs) → MergeAnswers (merging ws vs (length space)) space space (Err (Second k))
   unfolding merging
-  second-answer f n e h =
-      let g = accepted-is ws e in
-      subst (λ (x : Checking). MergeAnswers (merge_checked (length space) x (check vs)) space space (Second f n)) (sym g.1)
-      (subst (λ (y : Checking). MergeAnswers (merge_checked (length space) (good g.0) y) space space (Second f n)) (sym (rejected-is vs f n h)) (record { answer = refl; written = refl }))
+  second-answer k e h =
+      let g = accepted-is ws (sym e) in
+      subst (λ (x : Checking). MergeAnswers (merge_checked (length space) x (check vs)) space space (Err (Second k))) (sym g.1)
+      (subst (λ (y : Checking). MergeAnswers (merge_checked (length space) (good g.0) y) space space (Err (Second k))) (sym (rejected-is vs k (sym h))) (record { answer = refl; written = refl }))
 
-  pub sound-answer : checked (check ws) ≡ Accepts → checked (check vs) ≡ Accepts → (new : List ℕ) (r : Merged) → MergesSound ws vs space new r
+  pub sound-answer : Ok tt ≡ checked (check ws) → Ok tt ≡ checked (check vs) → (new : List ℕ) (r : Result ℕ MergeRefused) → MergesSound ws vs space new r
       → MergeAnswers (merging ws vs (length space)) space new r
   unfolding merging
   sound-answer e h new r s =
-      let g = accepted-is ws e in
-      let k = accepted-is vs h in
+      let g = accepted-is ws (sym e) in
+      let k = accepted-is vs (sym h) in
       subst (λ (x : Checking). MergeAnswers (merge_checked (length space) x (check vs)) space new r) (sym g.1)
       (subst (λ (y : Checking). MergeAnswers (merge_checked (length space) (good g.0) y) space new r) (sym k.1) (s g.0 k.0 g.1 k.1))

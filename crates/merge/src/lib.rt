@@ -9,43 +9,35 @@ mod put;
 ghost use Rattle.std.specs.Prelude.{◌≡◌, length};
 ghost use Rattle.library.specs.Readable.{Readable};
 ghost use Rattle.merge_meaning.specs.Merge.{merging, merged, merge_into};
-ghost use Rattle.merge.specs.Words.{Laid, WithinBoth, MergesSound, MergesApart};
+ghost use Rattle.merge.specs.Words.{WithinBoth, MergesSound, MergesApart};
 
 use crate::counted::count_cards;
-use crate::parts::{Parts, parts_of};
+use crate::parts::Parted;
 use crate::put::{TWICE, put_merged};
 use library::DIRECTORY;
 pub use merge_meaning::{MergeRefused, merged_number, merged_value, merged_which};
 use merge_names::shared_name;
 
 // Whether the two together pass no limit.
-fn within_both(first: &[u64], a: Parts, second: &[u64], b: Parts) -> bool
-    requires { Laid first.now a × Laid second.now b }
-    ensures { WithinBoth first.now second.now result }
+fn within_both(a: &Parted, b: &Parted) -> bool
+    ensures { WithinBoth a.now.image.now b.now.image.now result }
 {
-    let words = first.len() + second.len() - TWICE;
-    let entries = a.names + b.names - DIRECTORY - DIRECTORY;
-    let decks = (a.cards - a.names) + (b.cards - b.names) - 1;
-    let cards = count_cards(first, a.cards) + count_cards(second, b.cards);
+    let words = a.image.len() + b.image.len() - TWICE;
+    let entries = a.parts.names + b.parts.names - DIRECTORY - DIRECTORY;
+    let decks = (a.parts.cards - a.parts.names) + (b.parts.cards - b.parts.names) - 1;
+    let cards = count_cards(a.image, a.parts.cards) + count_cards(b.image, b.parts.cards);
     library::within_limits(entries, decks, cards, words)
 }
 
 // Where no name is common and no limit is passed.
-fn merge_apart(
-    first: &[u64],
-    a: Parts,
-    second: &[u64],
-    b: Parts,
-    space: &mut [u64],
-) -> Result<usize, MergeRefused>
-    requires { Laid first.now a × Laid second.now b }
-    ensures { MergesApart first.now second.now space.old space.new result }
+fn merge_apart(a: &Parted, b: &Parted, space: &mut [u64]) -> Result<usize, MergeRefused>
+    ensures { MergesApart a.now.image.now b.now.image.now space.old space.new result }
 {
-    let words = first.len() + second.len() - TWICE;
+    let words = a.image.len() + b.image.len() - TWICE;
     if space.len() < words {
         return Err(MergeRefused::Space);
     }
-    put_merged(first, a, second, b, space);
+    put_merged(a, b, space);
     Ok(words)
 }
 
@@ -54,19 +46,17 @@ fn merge_sound(first: &[u64], second: &[u64], space: &mut [u64]) -> Result<usize
     requires { Readable first.now × Readable second.now }
     ensures { MergesSound first.now second.now space.old space.new result }
 {
-    let a = parts_of(first);
-    let b = parts_of(second);
-    let names = a.names;
-    let others = b.names;
-    let shared = shared_name(&first[DIRECTORY..names], &second[DIRECTORY..others]);
-    let within = within_both(first, a, second, b);
+    let a = Parted::new(first);
+    let b = Parted::new(second);
+    let shared = shared_name(a.directory(), b.directory());
+    let within = within_both(&a, &b);
     if shared != 0 {
         return Err(MergeRefused::Shared(shared));
     }
     if !within {
         return Err(MergeRefused::Limit);
     }
-    merge_apart(first, a, second, b, space)
+    merge_apart(&a, &b, space)
 }
 
 // The first library followed by the second, in the space; a refusal leaves the space as it was.

@@ -1,10 +1,10 @@
 // The words of a merged library, put into a space that has room for them.
 ghost use Rattle.std.specs.Prelude.{◌≡◌, ◌++◌, ◌+◌, ◌^◌, ◌≤◌, ◌<◌, length, get_or, drop};
 ghost use Rattle.library_raise.specs.Raised.{raised_words};
-ghost use Rattle.merge.specs.Words.{Laid, header_of, tables_of, merged_cards, merged_words, raised_part};
+ghost use Rattle.merge.specs.Words.{header_of, tables_of, merged_cards, merged_words, raised_part};
 ghost use Rattle.words_lists.specs.Over.{put_at};
 
-use crate::parts::Parts;
+use crate::parts::Parted;
 use library::{COUNTS, DIRECTORY};
 
 // What both have and the merged library has once: a header of two words, and YANK$$$ in the deck list.
@@ -15,8 +15,8 @@ fn put_both(space: &mut [u64], at: usize, first: &[u64], second: &[u64])
     requires { at + length first.now + length second.now ≤ length space.old }
     ensures { space.new ≡ put_at at (first.now ++ second.now) space.old }
 {
-    words_lists::put_words(first, space, at);
-    words_lists::put_words(second, space, at + first.len());
+    words_lists::put(first, space, at);
+    words_lists::put(second, space, at + first.len());
 }
 
 fn raise_part(space: &mut [u64], from: usize, to: usize, n: u64)
@@ -47,61 +47,33 @@ fn put_counts(first: &[u64], second: &[u64], space: &mut [u64])
 }
 
 // Header and counts, both directories, both deck lists.
-fn put_tables(first: &[u64], a: Parts, second: &[u64], b: Parts, space: &mut [u64])
-    requires { Laid first.now a × (Laid second.now b × (a.cards + b.cards ≤ length space.old + 3)) }
-    ensures { space.new ≡ tables_of first.now second.now ++ drop (length (tables_of first.now second.now)) space.old }
+fn put_tables(a: &Parted, b: &Parted, space: &mut [u64])
+    requires { a.now.parts.cards + b.now.parts.cards ≤ length space.old + 3 }
+    ensures { space.new ≡ tables_of a.now.image.now b.now.image.now ++ drop (length (tables_of a.now.image.now b.now.image.now)) space.old }
 {
-    let names = a.names;
-    let cards = a.cards;
-    let others = b.names;
-    let end = b.cards;
-    put_counts(first, second, space);
-    put_both(
-        space,
-        DIRECTORY,
-        &first[DIRECTORY..names],
-        &second[DIRECTORY..others],
-    );
+    let names = a.parts.names + b.parts.names - DIRECTORY;
+    put_counts(a.image, b.image, space);
+    put_both(space, DIRECTORY, a.directory(), b.directory());
     // YANK$$$ stands once
-    let past = others + 1;
-    put_both(
-        space,
-        names + others - DIRECTORY,
-        &first[names..cards],
-        &second[past..end],
-    );
+    put_both(space, names, a.list(), &b.list()[1..]);
 }
 
 // The cards of YANK$$$ of both, then the decks of both.
-fn put_cards(first: &[u64], a: Parts, second: &[u64], b: Parts, space: &mut [u64])
-    requires { Laid first.now a × (Laid second.now b × (length first.now + length second.now ≤ length space.old + 3)) }
-    ensures { space.new ≡ put_at (length (tables_of first.now second.now)) (merged_cards first.now second.now) space.old }
+fn put_cards(a: &Parted, b: &Parted, space: &mut [u64])
+    requires { length a.now.image.now + length b.now.image.now ≤ length space.old + 3 }
+    ensures { space.new ≡ put_at (length (tables_of a.now.image.now b.now.image.now)) (merged_cards a.now.image.now b.now.image.now) space.old }
 {
-    let n = (a.names - DIRECTORY) as u64;
-    let yanks = a.cards;
-    let decks = a.decks;
-    let others = b.cards;
-    let last = b.decks;
-    put_raised(
-        space,
-        yanks + others - TWICE,
-        &first[yanks..decks],
-        &second[others..last],
-        n,
-    );
-    put_raised(
-        space,
-        decks + last - TWICE,
-        &first[decks..],
-        &second[last..],
-        n,
-    );
+    let n = (a.parts.names - DIRECTORY) as u64;
+    let cards = a.parts.cards + b.parts.cards - TWICE;
+    let decks = a.parts.decks + b.parts.decks - TWICE;
+    put_raised(space, cards, a.yanks(), b.yanks(), n);
+    put_raised(space, decks, a.decks(), b.decks(), n);
 }
 
-pub(crate) fn put_merged(first: &[u64], a: Parts, second: &[u64], b: Parts, space: &mut [u64])
-    requires { Laid first.now a × (Laid second.now b × (length first.now + length second.now ≤ length space.old + 3)) }
-    ensures { space.new ≡ merged_words first.now second.now ++ drop (length (merged_words first.now second.now)) space.old }
+pub(crate) fn put_merged(a: &Parted, b: &Parted, space: &mut [u64])
+    requires { length a.now.image.now + length b.now.image.now ≤ length space.old + 3 }
+    ensures { space.new ≡ merged_words a.now.image.now b.now.image.now ++ drop (length (merged_words a.now.image.now b.now.image.now)) space.old }
 {
-    put_tables(first, a, second, b, space);
-    put_cards(first, a, second, b, space);
+    put_tables(a, b, space);
+    put_cards(a, b, space);
 }

@@ -9,6 +9,6 @@ use Rattle.merge.proofs.put.put_both.Goals as goal
 pub returns : goal.returns
 returns c =
     let a = c.args in
-    c.put_words-2.ensures
-    ∙ ap (over (a.at + length a.first.now) a.second.now) c.put_words.ensures
+    c.put-2.ensures
+    ∙ ap (over (a.at + length a.first.now) a.second.now) c.put.ensures
     ∙ over-then a.at a.first.now a.second.now a.space.now c.requires

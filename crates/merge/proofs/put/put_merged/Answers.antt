@@ -12,6 +12,6 @@ pub returns : goal.returns
 unfolding merged_words
 returns c =
     let a = c.args in
-    let ts : List ℕ = tables_of a.first.now a.second.now in
-    let cs : List ℕ = merged_cards a.first.now a.second.now in
+    let ts : List ℕ = tables_of a.a.now.image.now a.b.now.image.now in
+    let cs : List ℕ = merged_cards a.a.now.image.now a.b.now.image.now in
     c.put_cards.ensures ∙ ap (put_at (length ts) cs) c.put_tables.ensures ∙ put_last ts cs a.space.now
