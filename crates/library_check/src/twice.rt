@@ -17,7 +17,7 @@ fn key_of(w: u64) -> u64
     w % NUMBER * FIELD + w / FIELD % FIELD
 }
 
-// The keys of all cards: how many there are.
+// The keys of all cards, in fixed memory: how many there are.
 fn list_keys(image: &[u64], from: usize, keys: &mut [u64; MOST_CARDS]) -> usize
     ensures upper_bound { result ≤ length keys.new }
     ensures listed { Listed image.now from (take result keys.new) }

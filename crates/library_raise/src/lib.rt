@@ -30,6 +30,8 @@ fn raise_word(x: u64, n: u64) -> u64
 }
 
 // The further words of a history, from `from` on. Answers where it ends.
+//
+// `library_yanks_bits` walks them too, and carries along what they say: one walk for both would take a trait with a state and laws, and be no plainer.
 fn raise_history(w: &mut [u64], from: usize, n: u64) -> usize
     requires { from ≤ length w.old }
     ensures lower_bound { (from ≤ result) × (result ≤ length w.old) }
@@ -68,6 +70,7 @@ pub fn raise_numbers(w: &mut [u64], n: u64)
     ensures { w.new ≡ raised_words n w.old }
 {
     let mut at = 0;
+    // a walk from card to card
     while at < w.len() {
         at = raise_card(w, at, n);
     }

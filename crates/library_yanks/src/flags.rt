@@ -24,7 +24,7 @@ fn put_link(first: &mut [u64; OWNERS], link: &mut [u64], owner: usize, at: usize
     }
 }
 
-// Each owner's first card, and each card's next, as its place and one more; 0 where there is none.
+// Each owner's first card, and each card's next, as its place and one more; 0 where there is none, so that cleared places link nothing.
 fn link_cards(cards: &[u64], link: &mut [u64]) -> [u64; OWNERS]
     requires { (length cards.now ≤ 65536) × (length cards.now ≤ length link.old) }
     ensures { Linked cards.now result link.new }

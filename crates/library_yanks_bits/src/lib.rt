@@ -111,6 +111,7 @@ pub fn settle_bits(w: &mut [u64], flags: &[u64])
     ensures { w.new ≡ settled_words (flagged flags.now) w.old }
 {
     let mut at = 0;
+    // a walk from card to card
     while at < w.len() {
         at = settle_card(w, at, flags);
     }
