@@ -1,5 +1,6 @@
 -- INSERT and BEFORE: the card is found in the stream where the definitions find it in its part.
-use Rattle.std.specs.Prelude.{if◌then◌else◌, Ok, Err}
+use Rattle.std.specs.Prelude.{if◌then◌else◌, Option as Answer, Some, None, Result, Ok, Err}
+use Rattle.std.specs.Option.{ok_or}
 use Prim.Native.Nat.{ℕ, zero, suc, ◌+◌, ◌-◌, ◌≤◌, ◌<◌}
 use native.Mathlib.Omega.{arith}
 use mathlib.Core.Path.{◌≡◌, refl, sym, ap, ap₂, ◌∙◌, subst}
@@ -43,16 +44,19 @@ unfolding index_of
 index_same o s [] = refl
 index_same o s (c ∷ cs) = ap (λ (n : ℕ). if is_card_of o s c then 0 else suc n) (index_same o s cs)
 
-pub seek-unknown : (w dir : List ℕ) (d : Desk) (r : CardName) (at : ℕ) → entry_of (take d.entries dir) r.name ≡ 0 → SeeksCard w dir d r (record { own = 0; at = at; index = d.cards })
-seek-unknown w dir d r at e names decks flags s held =
-    subst (SoughtAs s.lib d.gap held.below held.above r (record { own = 0; at = at; index = d.cards }))
-    (sym (find-unknown s.lib r (ap (λ (ds : List ℕ). entry_of ds r.name) (sym held.tables.directory) ∙ e))) held.cards
+-- a card that is not found
+none-index : (l : Library) (a : Spot) → Stood (parts l) a.part a.index → flat l a < length (stream l)
+unfolding stream
+none-index l a h = stood-below (parts l) a.part a.index h
 
-pub seek-known : (w dir : List ℕ) (d : Desk) (r : CardName) (own : ℕ) (p : Place) → own ≡ entry_of (take d.entries dir) r.name → 0 < own → Locates w d.gap d.low own r.seq p
-    → SeeksCard w dir d r (record { own = own; at = p.at; index = p.index })
-seek-known w dir d r own p e pos locates names decks flags s held = go (find l r) (find-flat l r (omega (arith, known)))
-  where
-    l : Library
+pub seek-unknown : (w dir : List ℕ) (d : Desk) (r : CardName) → entry_of (take d.entries dir) r.name ≡ 0 → SeeksCard w dir d r None
+seek-unknown w dir d r e names decks flags s held =
+    subst (SoughtAs s.lib d.gap held.below held.above r None)
+    (sym (find-unknown s.lib r (ap (λ (ds : List ℕ). entry_of ds r.name) (sym held.tables.directory) ∙ e))) tt
+
+module _ (w dir : List ℕ) (d : Desk) (r : CardName) (own : ℕ) (p : Place) (e : own ≡ entry_of (take d.entries dir) r.name) (pos : 0 < own) (locates : Locates w d.gap d.low own r.seq p) where
+  module _ (names decks flags : List ℕ) (s : State) (held : Held w dir names decks flags d s) where
+    abbrev l : Library
     l = s.lib
 
     known : own ≡ entry_of l.directory r.name
@@ -69,10 +73,22 @@ seek-known w dir d r own p e pos locates names decks flags s held = go (find l r
     named : index_by (is_card_of own r.seq) (stream l) ≡ index_by (is_card_of (own_of l r) r.seq) (stream l)
     named = ap (λ (o : ℕ). index_by (is_card_of o r.seq) (stream l)) known
 
-    go : (o : Option Spot) → FoundAs l (index_by (is_card_of (own_of l r) r.seq) (stream l)) o
-        → SoughtAs l d.gap held.below held.above r (record { own = own; at = p.at; index = p.index }) o
-    go none h = index ∙ named ∙ h
-    go (some a) h = record { stood = h.0; index = h.1 ∙ sym (index ∙ named); stands = located.stands; own = known; first = index }
+    as-none : d.cards ≤ p.index → (o : Option Spot) → FoundAs l (index_by (is_card_of (own_of l r) r.seq) (stream l)) o → SoughtAs l d.gap held.below held.above r None o
+    as-none le none h = tt
+    as-none le (some a) h = absurd (omega (arith, h.1, index ∙ named, none-index l a h.0, held.cards))
+
+    as-some : p.index < d.cards → (o : Option Spot) → FoundAs l (index_by (is_card_of (own_of l r) r.seq) (stream l)) o
+        → SoughtAs l d.gap held.below held.above r (Some (record { own = own; at = p.at; index = p.index })) o
+    as-some lt none h = absurd (omega (arith, index ∙ named ∙ h, held.cards))
+    as-some lt (some a) h = record { stood = h.0; index = h.1 ∙ sym (index ∙ named); stands = located.stands; own = known; first = index }
+
+  pub seek-missing : d.cards ≤ p.index → SeeksCard w dir d r None
+  seek-missing le names decks flags s held =
+      as-none names decks flags s held le (find s.lib r) (find-flat s.lib r (omega (arith, known names decks flags s held)))
+
+  pub seek-known : p.index < d.cards → SeeksCard w dir d r (Some (record { own = own; at = p.at; index = p.index }))
+  seek-known lt names decks flags s held =
+      as-some names decks flags s held lt (find s.lib r) (find-flat s.lib r (omega (arith, known names decks flags s held)))
 
 -- THE PLACE OF TEXT, behind a card and ahead of it
 stood-place : (ds : List Deck) (k i : ℕ) → Stood (map deck_cards ds) k i → HasPlace ds k i
@@ -150,11 +166,6 @@ off w dir names decks flags y r q e f = subst (λ (x : Step). Answered w dir nam
 abbrev ask : State → Bool → (Option Spot → Step) → Option Spot → Step
 ask s b f o = refuse (not b) Nowhere (f o)
 
--- a card that is not found
-none-index : (l : Library) (a : Spot) → Stood (parts l) a.part a.index → flat l a < length (stream l)
-unfolding stream
-none-index l a h = stood-below (parts l) a.part a.index h
-
 -- INSERT
 module _ (w dir : List ℕ) (d : Desk) (r : CardName) (v names decks flags line : List ℕ) (s : State) (asks : directive line ≡ Insert r) (held : Held w dir names decks flags d s) where
   insert-obeyed : (b : Bool) (o : Option Spot) → d.set ≡ b → find s.lib r ≡ o → step s line ≡ ask s b (insert_after s) o
@@ -164,23 +175,25 @@ module _ (w dir : List ℕ) (d : Desk) (r : CardName) (v names decks flags line 
   insert-no-set : d.set ≡ false → Answered v dir names decks flags (Err Nowhere) (step s line)
   insert-no-set e = off v dir names decks flags Nowhere (step s line) _ (insert-obeyed false (find s.lib r) e refl) refl
 
-  module _ (on : d.set ≡ true) (f : Sought) where
-    insert-none : d.cards ≤ f.index → (o : Option Spot) → find s.lib r ≡ o → SoughtAs s.lib d.gap held.below held.above r f o
+  module _ (on : d.set ≡ true) where
+    insert-none : (o : Option Spot) → find s.lib r ≡ o → SoughtAs s.lib d.gap held.below held.above r None o
         → Answered v dir names decks flags (Err NoCard) (step s line)
-    insert-none le none e h = off v dir names decks flags NoCard (step s line) _ (insert-obeyed true none on e) refl
-    insert-none le (some a) e h = absurd (omega (arith, h.index, none-index s.lib a h.stood, held.cards))
+    insert-none none e h = off v dir names decks flags NoCard (step s line) _ (insert-obeyed true none on e) refl
+    insert-none (some a) e h = absurd h
 
-    insert-barred : f.index < d.cards → f.index < d.yanks → (o : Option Spot) → find s.lib r ≡ o → SoughtAs s.lib d.gap held.below held.above r f o
+  module _ (on : d.set ≡ true) (f : Sought) where
+
+    insert-barred : f.index < d.yanks → (o : Option Spot) → find s.lib r ≡ o → SoughtAs s.lib d.gap held.below held.above r (Some f) o
         → Answered v dir names decks flags (Err Barred) (step s line)
-    insert-barred lt y none e h = absurd (omega (arith, h, held.cards))
-    insert-barred lt y (some a) e h =
+    insert-barred y none e h = absurd h
+    insert-barred y (some a) e h =
         off v dir names decks flags Barred (step s line) _ (insert-obeyed true (some a) on e)
         (ap (λ (b : Bool). refuse b Barred (went (with_place s (place_after a))))
         (yank-part-flat s.lib a h.stood ∙ ltb_yes (flat s.lib a) (length s.lib.yanks) (omega (arith, h.index, held.yanks))))
 
     insert-went : f.index < d.cards → d.yanks ≤ f.index → (g : Gap) → OpensAfter w d.gap f.at v g → (o : Option Spot) → find s.lib r ≡ o
-        → SoughtAs s.lib d.gap held.below held.above r f o → Answered v dir names decks flags (Ok (moved_desk d g (f.index + 1))) (step s line)
-    insert-went lt y g opens none e h = absurd (omega (arith, h, held.cards))
+        → SoughtAs s.lib d.gap held.below held.above r (Some f) o → Answered v dir names decks flags (Ok (moved_desk d g (f.index + 1))) (step s line)
+    insert-went lt y g opens none e h = absurd h
     insert-went lt y g opens (some a) e h =
         let part : is_yank_part a ≡ false = yank-part-flat s.lib a h.stood ∙ ltb_no (flat s.lib a) (length s.lib.yanks) (omega (arith, h.index, held.yanks)) in
         let here : f.index < length (held.below ++ held.above) = subst (λ (cs : List Card). f.index < length cs) (sym held.whole) (omega (arith, held.cards)) in
@@ -194,12 +207,12 @@ module _ (w dir : List ℕ) (d : Desk) (r : CardName) (v names decks flags line 
 pub insert-off : (w dir : List ℕ) (d : Desk) (r : CardName) (v : List ℕ) → d.set ≡ false → InsertSteps w dir d r v (Err Nowhere)
 insert-off w dir d r v e names decks flags line s asks held = insert-no-set w dir d r v names decks flags line s asks held e
 
-module _ (w dir : List ℕ) (d : Desk) (r : CardName) (v : List ℕ) (on : d.set ≡ true) (f : Sought) (seeks : SeeksCard w dir d r f) where
-  pub insert-missing : d.cards ≤ f.index → InsertSteps w dir d r v (Err NoCard)
-  insert-missing le names decks flags line s asks held = insert-none w dir d r v names decks flags line s asks held on f le (find s.lib r) refl (seeks names decks flags s held)
+pub insert-missing : (w dir : List ℕ) (d : Desk) (r : CardName) (v : List ℕ) → d.set ≡ true → SeeksCard w dir d r None → InsertSteps w dir d r v (Err NoCard)
+insert-missing w dir d r v on seeks names decks flags line s asks held = insert-none w dir d r v names decks flags line s asks held on (find s.lib r) refl (seeks names decks flags s held)
 
-  pub insert-yanks : f.index < d.cards → f.index < d.yanks → InsertSteps w dir d r v (Err Barred)
-  insert-yanks lt y names decks flags line s asks held = insert-barred w dir d r v names decks flags line s asks held on f lt y (find s.lib r) refl (seeks names decks flags s held)
+module _ (w dir : List ℕ) (d : Desk) (r : CardName) (v : List ℕ) (on : d.set ≡ true) (f : Sought) (seeks : SeeksCard w dir d r (Some f)) where
+  pub insert-yanks : f.index < d.yanks → InsertSteps w dir d r v (Err Barred)
+  insert-yanks y names decks flags line s asks held = insert-barred w dir d r v names decks flags line s asks held on f y (find s.lib r) refl (seeks names decks flags s held)
 
   pub insert-on : f.index < d.cards → d.yanks ≤ f.index → (g : Gap) → OpensAfter w d.gap f.at v g → InsertSteps w dir d r v (Ok (moved_desk d g (f.index + 1)))
   insert-on lt y g opens names decks flags line s asks held = insert-went w dir d r v names decks flags line s asks held on f lt y g opens (find s.lib r) refl (seeks names decks flags s held)
@@ -213,11 +226,13 @@ module _ (w dir : List ℕ) (d : Desk) (r : CardName) (v names decks flags line 
   before-no-set : d.set ≡ false → Answered v dir names decks flags (Err Nowhere) (step s line)
   before-no-set e = off v dir names decks flags Nowhere (step s line) _ (before-obeyed false (find s.lib r) e refl) refl
 
-  module _ (on : d.set ≡ true) (f : Sought) where
-    before-none : d.cards ≤ f.index → (o : Option Spot) → find s.lib r ≡ o → SoughtAs s.lib d.gap held.below held.above r f o
+  module _ (on : d.set ≡ true) where
+    before-none : (o : Option Spot) → find s.lib r ≡ o → SoughtAs s.lib d.gap held.below held.above r None o
         → Answered v dir names decks flags (Err NoCard) (step s line)
-    before-none le none e h = off v dir names decks flags NoCard (step s line) _ (before-obeyed true none on e) refl
-    before-none le (some a) e h = absurd (omega (arith, h.index, none-index s.lib a h.stood, held.cards))
+    before-none none e h = off v dir names decks flags NoCard (step s line) _ (before-obeyed true none on e) refl
+    before-none (some a) e h = absurd h
+
+  module _ (on : d.set ≡ true) (f : Sought) where
 
     -- whether the card is a deck card, by its owner and number
     is-titled : f.index < d.cards → (a : Spot) → SoughtAt s.lib d.gap held.below held.above r f a → is_deck_spot a ≡ (eqb r.seq 1 && flagged decks f.own)
@@ -230,10 +245,10 @@ module _ (w dir : List ℕ) (d : Desk) (r : CardName) (v names decks flags line 
         off v dir names decks flags Barred (step s line) _ (before-obeyed true (some a) on e)
         (ap (λ (b : Bool). refuse b Barred (went (with_place s (in_deck (a.part - 1) (a.index - 1))))) q)
 
-    before-barred : f.index < d.cards → f.index < d.yanks → (o : Option Spot) → find s.lib r ≡ o → SoughtAs s.lib d.gap held.below held.above r f o
+    before-barred : f.index < d.yanks → (o : Option Spot) → find s.lib r ≡ o → SoughtAs s.lib d.gap held.below held.above r (Some f) o
         → Answered v dir names decks flags (Err Barred) (step s line)
-    before-barred lt y none e h = absurd (omega (arith, h, held.cards))
-    before-barred lt y (some a) e h =
+    before-barred y none e h = absurd h
+    before-barred y (some a) e h =
         barred a (ap (λ (b : Bool). b || is_deck_spot a)
         (yank-part-flat s.lib a h.stood ∙ ltb_yes (flat s.lib a) (length s.lib.yanks) (omega (arith, h.index, held.yanks)))) e
 
@@ -241,14 +256,14 @@ module _ (w dir : List ℕ) (d : Desk) (r : CardName) (v names decks flags line 
     or-true true b e = refl
     or-true false b e = e
 
-    before-titled : f.index < d.cards → (eqb r.seq 1 && flagged decks f.own) ≡ true → (o : Option Spot) → find s.lib r ≡ o → SoughtAs s.lib d.gap held.below held.above r f o
+    before-titled : f.index < d.cards → (eqb r.seq 1 && flagged decks f.own) ≡ true → (o : Option Spot) → find s.lib r ≡ o → SoughtAs s.lib d.gap held.below held.above r (Some f) o
         → Answered v dir names decks flags (Err Barred) (step s line)
-    before-titled lt m none e h = absurd (omega (arith, h, held.cards))
+    before-titled lt m none e h = absurd h
     before-titled lt m (some a) e h = barred a (or-true (is_yank_part a) (is_deck_spot a) (is-titled lt a h ∙ m)) e
 
     before-went : f.index < d.cards → d.yanks ≤ f.index → (eqb r.seq 1 && flagged decks f.own) ≡ false → (g : Gap) → OpensAhead w d.gap f.at v g
-        → (o : Option Spot) → find s.lib r ≡ o → SoughtAs s.lib d.gap held.below held.above r f o → Answered v dir names decks flags (Ok (moved_desk d g f.index)) (step s line)
-    before-went lt y m g opens none e h = absurd (omega (arith, h, held.cards))
+        → (o : Option Spot) → find s.lib r ≡ o → SoughtAs s.lib d.gap held.below held.above r (Some f) o → Answered v dir names decks flags (Ok (moved_desk d g f.index)) (step s line)
+    before-went lt y m g opens none e h = absurd h
     before-went lt y m g opens (some a) e h =
         let part : is_yank_part a ≡ false = yank-part-flat s.lib a h.stood ∙ ltb_no (flat s.lib a) (length s.lib.yanks) (omega (arith, h.index, held.yanks)) in
         let deck : is_deck_spot a ≡ false = is-titled lt a h ∙ m in
@@ -264,12 +279,12 @@ module _ (w dir : List ℕ) (d : Desk) (r : CardName) (v names decks flags line 
 pub before-off : (w dir decks : List ℕ) (d : Desk) (r : CardName) (v : List ℕ) → d.set ≡ false → BeforeSteps w dir decks d r v (Err Nowhere)
 before-off w dir decks d r v e names flags line s asks held = before-no-set w dir d r v names decks flags line s asks held e
 
-module _ (w dir decks : List ℕ) (d : Desk) (r : CardName) (v : List ℕ) (on : d.set ≡ true) (f : Sought) (seeks : SeeksCard w dir d r f) where
-  pub before-missing : d.cards ≤ f.index → BeforeSteps w dir decks d r v (Err NoCard)
-  before-missing le names flags line s asks held = before-none w dir d r v names decks flags line s asks held on f le (find s.lib r) refl (seeks names decks flags s held)
+pub before-missing : (w dir decks : List ℕ) (d : Desk) (r : CardName) (v : List ℕ) → d.set ≡ true → SeeksCard w dir d r None → BeforeSteps w dir decks d r v (Err NoCard)
+before-missing w dir decks d r v on seeks names flags line s asks held = before-none w dir d r v names decks flags line s asks held on (find s.lib r) refl (seeks names decks flags s held)
 
-  pub before-yanks : f.index < d.cards → f.index < d.yanks → BeforeSteps w dir decks d r v (Err Barred)
-  before-yanks lt y names flags line s asks held = before-barred w dir d r v names decks flags line s asks held on f lt y (find s.lib r) refl (seeks names decks flags s held)
+module _ (w dir decks : List ℕ) (d : Desk) (r : CardName) (v : List ℕ) (on : d.set ≡ true) (f : Sought) (seeks : SeeksCard w dir d r (Some f)) where
+  pub before-yanks : f.index < d.yanks → BeforeSteps w dir decks d r v (Err Barred)
+  before-yanks y names flags line s asks held = before-barred w dir d r v names decks flags line s asks held on f y (find s.lib r) refl (seeks names decks flags s held)
 
   pub before-deck : f.index < d.cards → titled decks f.own r.seq ≡ true → BeforeSteps w dir decks d r v (Err Barred)
   before-deck lt m names flags line s asks held = before-titled w dir d r v names decks flags line s asks held on f lt m (find s.lib r) refl (seeks names decks flags s held)
@@ -278,17 +293,14 @@ module _ (w dir decks : List ℕ) (d : Desk) (r : CardName) (v : List ℕ) (on :
       → BeforeSteps w dir decks d r v (Ok (moved_desk d g f.index))
   before_on lt y m g opens names flags line s asks held = before-went w dir d r v names decks flags line s asks held on f lt y m g opens (find s.lib r) refl (seeks names decks flags s held)
 
--- the test in code: number 1, and then the flag
-pub title-other : (decks : List ℕ) (own seq : ℕ) → (seq ≡ 1 → ⊥) → titled decks own seq ≡ false
-title-other decks own seq ne = ap (λ (b : Bool). b && flagged decks own) (eqb_no seq 1 ne)
+-- a card that is sought, or 28
+pub present : (o : Answer Sought) (m : Result Sought Why) (f : Sought) → m ≡ ok_or o NoCard → m ≡ Ok f → o ≡ Some f
+present None m f e q = absurd (cc)
+present (Some k) m f e q = cc
 
-pub title-clear : (decks : List ℕ) (own seq : ℕ) → get_or decks own 0 ≡ 0 → titled decks own seq ≡ false
-unfolding flagged
-title-clear decks own seq e = ap (λ (b : Bool). eqb seq 1 && not b) (eqb_yes (get_or decks own 0) 0 e) ∙ and-false (eqb seq 1)
-
-pub title-set : (decks : List ℕ) (own seq : ℕ) → seq ≡ 1 → (get_or decks own 0 ≡ 0 → ⊥) → titled decks own seq ≡ true
-unfolding flagged
-title-set decks own seq one ne = ap₂ (λ (a b : Bool). a && not b) (eqb_yes seq 1 one) (eqb_no (get_or decks own 0) 0 ne)
+pub absent : (o : Answer Sought) (m : Result Sought Why) (y : Why) → m ≡ ok_or o NoCard → m ≡ Err y → (o ≡ None) × (y ≡ NoCard)
+absent None m y e q = (refl, cc)
+absent (Some k) m y e q = absurd (cc)
 
 -- the test `!b`
 pub not_taken : (b : Bool) → not b ≡ true → b ≡ false

@@ -1,5 +1,5 @@
 -- DELETE and RESTORE: both cards are sought, and the range is refused or marked as the definitions have it.
-use Rattle.std.specs.Prelude.{Result, Err}
+use Rattle.std.specs.Prelude.{Option as Answer, Some, None, Result, Err}
 use Prim.Native.Nat.{ℕ, ◌≤◌, ◌<◌}
 use native.Mathlib.Omega.{arith}
 use mathlib.Core.Path.{◌≡◌, refl, sym, ap, ap₂, ◌∙◌, subst}
@@ -41,70 +41,69 @@ module _ (w dir decks flags : List ℕ) (d : Desk) (was : Bool) (p q : CardName)
   no-set : d.set ≡ false → Answered v dir names decks newFlags (Err Nowhere) (step s line)
   no-set e = off Nowhere _ (obeyed false (find s.lib p) (find s.lib q) e refl refl) refl
 
-  module _ (on : d.set ≡ true) (f : Sought) where
-    abbrev Is : CardName → Sought → Option Spot → Type 0
+  module _ (on : d.set ≡ true) where
+    abbrev Is : CardName → Answer Sought → Option Spot → Type 0
     Is r k o = SoughtAs s.lib d.gap held.below held.above r k o
 
-    no-first : d.cards ≤ f.index → (x : Option Spot) → find s.lib p ≡ x → Is p f x → Answered v dir names decks newFlags (Err NoCard) (step s line)
-    no-first le none e h = off NoCard _ (obeyed true none (find s.lib q) on e refl) refl
-    no-first le (some a) e h = absurd (omega (arith, h.index, spot-below s.lib a h.stood, held.cards))
+    no-first : (x : Option Spot) → find s.lib p ≡ x → Is p None x → Answered v dir names decks newFlags (Err NoCard) (step s line)
+    no-first none e h = off NoCard _ (obeyed true none (find s.lib q) on e refl) refl
+    no-first (some a) e h = absurd h
 
-    module _ (k : Sought) where
-      no_last : d.cards ≤ k.index → (x y : Option Spot) → find s.lib p ≡ x → find s.lib q ≡ y → Is q k y → Answered v dir names decks newFlags (Err NoCard) (step s line)
-      no_last le none y e g h = off NoCard _ (obeyed true none y on e g) refl
-      no_last le (some a) none e g h = off NoCard _ (obeyed true (some a) none on e g) refl
-      no_last le (some a) (some b) e g h = absurd (omega (arith, h.index, spot-below s.lib b h.stood, held.cards))
+    no_last : (x y : Option Spot) → find s.lib p ≡ x → find s.lib q ≡ y → Is q None y → Answered v dir names decks newFlags (Err NoCard) (step s line)
+    no_last none y e g h = off NoCard _ (obeyed true none y on e g) refl
+    no_last (some a) none e g h = off NoCard _ (obeyed true (some a) none on e g) refl
+    no_last (some a) (some b) e g h = absurd h
 
+    module _ (f k : Sought) where
       abbrev rest : Spot → Spot → Step
       rest a b = refuse (is_barred a b) Barred (limited (after_mark s was a b))
 
       ranged : (a b : Spot) (c : Bool) → is_backwards a b ≡ c → find s.lib p ≡ some a → find s.lib q ≡ some b → step s line ≡ refuse c Backwards (rest a b)
       ranged a b c e x y = obeyed true (some a) (some b) on x y ∙ ap (λ (z : Bool). refuse z Backwards (rest a b)) e
 
-      turned : f.index < d.cards → k.index < d.cards → k.index < f.index → (x y : Option Spot) → find s.lib p ≡ x → find s.lib q ≡ y → Is p f x → Is q k y
+      turned : k.index < f.index → (x y : Option Spot) → find s.lib p ≡ x → find s.lib q ≡ y → Is p (Some f) x → Is q (Some k) y
           → Answered v dir names decks newFlags (Err Backwards) (step s line)
-      turned m n lt none y e g h i = absurd (omega (arith, h, held.cards))
-      turned m n lt (some a) none e g h i = absurd (omega (arith, i, held.cards))
-      turned m n lt (some a) (some b) e g h i =
+      turned lt none y e g h i = absurd h
+      turned lt (some a) none e g h i = absurd i
+      turned lt (some a) (some b) e g h i =
           off Backwards _ (ranged a b true (backwards-flat s.lib a b h.stood i.stood ∙ ltb_yes (flat s.lib b) (flat s.lib a) (omega (arith, h.index, i.index))) e g) refl
 
       set_on : T (is_set s.kind)
       set_on = subst (λ (b : Bool). T b) (sym (sym held.set ∙ on)) tt
 
-      gone : (e : Result Desk Why) → MarksFound w dir decks flags d was f k q.seq v newFlags e → f.index < d.cards → k.index < d.cards → f.index ≤ k.index
-          → (x y : Option Spot) → find s.lib p ≡ x → find s.lib q ≡ y → Is p f x → Is q k y → Answered v dir names decks newFlags e (step s line)
-      gone r found m n le none y e g h i = absurd (omega (arith, h, held.cards))
-      gone r found m n le (some a) none e g h i = absurd (omega (arith, i, held.cards))
-      gone r found m n le (some a) (some b) e g h i =
+      gone : (e : Result Desk Why) → MarksFound w dir decks flags d was f k q.seq v newFlags e → f.index ≤ k.index
+          → (x y : Option Spot) → find s.lib p ≡ x → find s.lib q ≡ y → Is p (Some f) x → Is q (Some k) y → Answered v dir names decks newFlags e (step s line)
+      gone r found le none y e g h i = absurd h
+      gone r found le (some a) none e g h i = absurd i
+      gone r found le (some a) (some b) e g h i =
           found names line s p q a b held set_on refl h i
           (ranged a b false (backwards-flat s.lib a b h.stood i.stood ∙ ltb_no (flat s.lib b) (flat s.lib a) (omega (arith, h.index, i.index))) e g)
 
 -- one card named twice is found where it was
-pub same-card : (w dir : List ℕ) (d : Desk) (p q : CardName) (f : Sought) → p.name ≡ q.name → p.seq ≡ q.seq → SeeksCard w dir d p f → SeeksCard w dir d q f
-same-card w dir d p q f n s first = subst (λ (r : CardName). SeeksCard w dir d r f) (λ i. record { name = n i; seq = s i }) first
+pub same-card : (w dir : List ℕ) (d : Desk) (p q : CardName) (f : Sought) → p.name ≡ q.name → p.seq ≡ q.seq → SeeksCard w dir d p (Some f) → SeeksCard w dir d q (Some f)
+same-card w dir d p q f n s first = subst (λ (r : CardName). SeeksCard w dir d r (Some f)) (λ i. record { name = n i; seq = s i }) first
 
 -- THE ANSWERS
 module _ (w dir decks flags : List ℕ) (d : Desk) (was : Bool) (p q : CardName) (v newFlags : List ℕ) where
   pub mark-off : d.set ≡ false → MarkSteps w dir decks flags d was p q v newFlags (Err Nowhere)
   mark-off e names line s asks held = no-set w dir decks flags d was p q v newFlags names line s asks held e
 
-  module _ (on : d.set ≡ true) (f : Sought) (first : SeeksCard w dir d p f) where
-    pub mark-no-first : d.cards ≤ f.index → MarkSteps w dir decks flags d was p q v newFlags (Err NoCard)
-    mark-no-first le names line s asks held =
-        no-first w dir decks flags d was p q v newFlags names line s asks held on f le (find s.lib p) refl (first names decks flags s held)
+  module _ (on : d.set ≡ true) where
+    pub mark-no-first : SeeksCard w dir d p None → MarkSteps w dir decks flags d was p q v newFlags (Err NoCard)
+    mark-no-first first names line s asks held =
+        no-first w dir decks flags d was p q v newFlags names line s asks held on (find s.lib p) refl (first names decks flags s held)
 
-    module _ (k : Sought) (last : SeeksCard w dir d q k) where
-      pub mark-no-last : d.cards ≤ k.index → MarkSteps w dir decks flags d was p q v newFlags (Err NoCard)
-      mark-no-last le names line s asks held =
-          no_last w dir decks flags d was p q v newFlags names line s asks held on f k le (find s.lib p) (find s.lib q) refl refl (last names decks flags s held)
+    pub mark-no-last : SeeksCard w dir d q None → MarkSteps w dir decks flags d was p q v newFlags (Err NoCard)
+    mark-no-last last names line s asks held =
+        no_last w dir decks flags d was p q v newFlags names line s asks held on (find s.lib p) (find s.lib q) refl refl (last names decks flags s held)
 
-      pub mark-backwards : f.index < d.cards → k.index < d.cards → k.index < f.index → MarkSteps w dir decks flags d was p q v newFlags (Err Backwards)
-      mark-backwards m n lt names line s asks held =
-          turned w dir decks flags d was p q v newFlags names line s asks held on f k m n lt (find s.lib p) (find s.lib q) refl refl
+    module _ (f : Sought) (first : SeeksCard w dir d p (Some f)) (k : Sought) (last : SeeksCard w dir d q (Some k)) where
+      pub mark-backwards : k.index < f.index → MarkSteps w dir decks flags d was p q v newFlags (Err Backwards)
+      mark-backwards lt names line s asks held =
+          turned w dir decks flags d was p q v newFlags names line s asks held on f k lt (find s.lib p) (find s.lib q) refl refl
           (first names decks flags s held) (last names decks flags s held)
 
-      pub mark_on : (e : Result Desk Why) → MarksFound w dir decks flags d was f k q.seq v newFlags e → f.index < d.cards → k.index < d.cards → f.index ≤ k.index
-          → MarkSteps w dir decks flags d was p q v newFlags e
-      mark_on e found m n le names line s asks held =
-          gone w dir decks flags d was p q v newFlags names line s asks held on f k e found m n le (find s.lib p) (find s.lib q) refl refl
+      pub mark_on : (e : Result Desk Why) → MarksFound w dir decks flags d was f k q.seq v newFlags e → f.index ≤ k.index → MarkSteps w dir decks flags d was p q v newFlags e
+      mark_on e found le names line s asks held =
+          gone w dir decks flags d was p q v newFlags names line s asks held on f k e found le (find s.lib p) (find s.lib q) refl refl
           (first names decks flags s held) (last names decks flags s held)

@@ -14,10 +14,6 @@ use Rattle.run.specs.Corrected.{titled}
 use Rattle.run.specs.RangeSteps.{is_title, HasTitle}
 use Rattle.run.specs.declared.card.Seen.{Seen}
 use Rattle.run.proofs.Walking.{stand-start, stand-in, stand-out, stand-words, stand-fits, stand-next}
-use Rattle.run.proofs.Correcting.{title-clear}
-
-pub title-out : (decks : List ℕ) (own seq : ℕ) → length decks ≤ own → titled decks own seq ≡ false
-title-out decks own seq h = title-clear decks own seq (get_or-eq_default decks 0 h)
 
 -- what is left of the walk: the cards from `at` on, of which the first `left` decide
 pub record Rest (w decks : List ℕ) (at left : ℕ) (yk : ℕ → Bool) (cs : List Card) (n : ℕ) (rest : List ℕ) : Type 0 where

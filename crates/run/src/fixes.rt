@@ -1,8 +1,8 @@
 // INSERT and BEFORE (RULES, "Corrections").
-ghost use Rattle.std.specs.Prelude.{◌≡◌, ◌≤◌, ◌<◌, length};
+ghost use Rattle.std.specs.Prelude.{◌≡◌, ◌<◌, length, IfSome};
 ghost use Rattle.run.specs.Desk.{Sane, SaneAfter};
 ghost use Rattle.library_yanks_bits.specs.SettledBits.{flagged};
-ghost use Rattle.run.specs.Corrected.{titled, SeeksCard, InsertSteps, BeforeSteps};
+ghost use Rattle.run.specs.Corrected.{titled, Within, SeeksCard, SeeksPlace, InsertSteps, BeforeSteps};
 
 use crate::desk::{Desk, moved};
 use crate::gap::{open_after, open_ahead};
@@ -11,7 +11,7 @@ use crate::starts::entry_of;
 use run_meaning::Why;
 use words_lines::CardName;
 
-// A card as it was sought: its owner's number, the word it begins at, and its index in the stream; the count of cards where there is none.
+// A card as it was sought: its owner's number, the word it begins at, and its index in the stream.
 #[derive(Clone, Copy)]
 pub(crate) struct Sought {
     pub(crate) own: u64,
@@ -19,27 +19,39 @@ pub(crate) struct Sought {
     pub(crate) index: usize,
 }
 
-pub(crate) fn seek_card(w: &[u64], dir: &[u64], d: Desk, r: CardName) -> Sought
+pub(crate) fn seek_card(w: &[u64], dir: &[u64], d: Desk, r: CardName) -> Option<Sought>
     requires { Sane w.now d × (length dir.now ≡ 1024) }
-    ensures own_bound { (result.own ≤ 1023) × (result.at ≤ length w.now) }
+    ensures bounds { IfSome result (λ f. Within w.now d f) }
     ensures seeks_card { SeeksCard w.now dir.now d r result }
 {
-    let n = d.entries;
-    let own = entry_of(dir, n, r.name) as u64;
+    let own = entry_of(dir, d.entries, r.name) as u64;
     if own == 0 {
-        return Sought {
-            own: 0,
-            at: 0,
-            index: d.cards,
-        };
+        return None;
     }
-    let g = d.gap;
-    let p = locate(w, g, d.low, own, r.seq);
-    Sought {
-        own: own,
+    let p = locate(w, d.gap, d.low, own, r.seq);
+    if d.cards <= p.index {
+        return None;
+    }
+    Some(Sought {
+        own,
         at: p.at,
         index: p.index,
+    })
+}
+
+// The card of an INSERT or a BEFORE: in a set, and not in YANK$$$.
+fn seek_place(w: &[u64], dir: &[u64], d: Desk, r: CardName) -> Result<Sought, Why>
+    requires { Sane w.now d × (length dir.now ≡ 1024) }
+    ensures { SeeksPlace w.now dir.now d r result }
+{
+    if !d.set {
+        return Err(Why::Nowhere);
     }
+    let f = seek_card(w, dir, d, r).ok_or(Why::NoCard)?;
+    if f.index < d.yanks {
+        return Err(Why::Barred);
+    }
+    Ok(f)
 }
 
 // INSERT: the gap is placed after the card.
@@ -48,18 +60,8 @@ pub(crate) fn insert_step(w: &mut [u64], dir: &[u64], d: Desk, r: CardName) -> R
     ensures sane_after { SaneAfter w.new result }
     ensures insert_steps { InsertSteps w.old dir.now d r w.new result }
 {
-    if !d.set {
-        return Err(Why::Nowhere);
-    }
-    let f = seek_card(w, dir, d, r);
-    if d.cards <= f.index {
-        return Err(Why::NoCard);
-    }
-    if f.index < d.yanks {
-        return Err(Why::Barred);
-    }
-    let g = d.gap;
-    let h = open_after(w, g, f.at);
+    let f = seek_place(w, dir, d, r)?;
+    let h = open_after(w, d.gap, f.at);
     Ok(moved(d, h, f.index + 1))
 }
 
@@ -89,20 +91,10 @@ pub(crate) fn before_step(
     ensures sane_after { SaneAfter w.new result }
     ensures before_steps { BeforeSteps w.old dir.now decks.now d r w.new result }
 {
-    if !d.set {
-        return Err(Why::Nowhere);
-    }
-    let f = seek_card(w, dir, d, r);
-    if d.cards <= f.index {
-        return Err(Why::NoCard);
-    }
-    if f.index < d.yanks {
-        return Err(Why::Barred);
-    }
+    let f = seek_place(w, dir, d, r)?;
     if is_title(decks, f.own, r.seq) {
         return Err(Why::Barred);
     }
-    let g = d.gap;
-    let h = open_ahead(w, g, f.at);
+    let h = open_ahead(w, d.gap, f.at);
     Ok(moved(d, h, f.index))
 }

@@ -1,8 +1,8 @@
 // DELETE and RESTORE (RULES, "Corrections"): the range is sought, tested for deck cards, and marked; where it is in YANK$$$, all bits are settled again.
-ghost use Rattle.std.specs.Prelude.{◌≡◌, ◌≤◌, ◌<◌, length};
+ghost use Rattle.std.specs.Prelude.{◌≡◌, ◌≤◌, ◌<◌, length, IfSome, Some};
 ghost use Rattle.run.specs.GapWords.{Ordered};
 ghost use Rattle.run.specs.Desk.{Sane, SaneAfter};
-ghost use Rattle.run.specs.Corrected.{SeeksCard};
+ghost use Rattle.run.specs.Corrected.{Within, SeeksCard};
 ghost use Rattle.run.specs.Resettled.{MarkSteps};
 ghost use Rattle.run.specs.RangeSteps.{HasTitle, LeadAfter, YankMarks, GoesOn, MarksFound};
 
@@ -119,16 +119,21 @@ fn mark_found(
 }
 
 // The last card of a range whose first is f. `*DELETE X.n` names one card for both, and that one is not sought again.
-fn seek_last(w: &[u64], dir: &[u64], d: Desk, a: CardName, f: Sought, b: CardName) -> Sought
-    requires sane { Sane w.now d × ((length dir.now ≡ 1024) × ((f.own ≤ 1023) × (f.at ≤ length w.now))) }
-    requires seeks_card { SeeksCard w.now dir.now d a f }
-    ensures own_bound { (result.own ≤ 1023) × (result.at ≤ length w.now) }
+fn seek_last(
+    w: &[u64],
+    dir: &[u64],
+    d: Desk,
+    a: CardName,
+    f: Sought,
+    b: CardName,
+) -> Option<Sought>
+    requires sane { Sane w.now d × ((length dir.now ≡ 1024) × Within w.now d f) }
+    requires seeks_card { SeeksCard w.now dir.now d a (Some f) }
+    ensures bounds { IfSome result (λ l. Within w.now d l) }
     ensures seeks_card_2 { SeeksCard w.now dir.now d b result }
 {
-    if a.seq == b.seq {
-        if a.name == b.name {
-            return f;
-        }
+    if a.seq == b.seq && a.name == b.name {
+        return Some(f);
     }
     seek_card(w, dir, d, b)
 }
@@ -151,14 +156,8 @@ pub(crate) fn mark_step(
     if !d.set {
         return Err(Why::Nowhere);
     }
-    let f = seek_card(w, dir, d, a);
-    if d.cards <= f.index {
-        return Err(Why::NoCard);
-    }
-    let l = seek_last(w, dir, d, a, f, b);
-    if d.cards <= l.index {
-        return Err(Why::NoCard);
-    }
+    let f = seek_card(w, dir, d, a).ok_or(Why::NoCard)?;
+    let l = seek_last(w, dir, d, a, f, b).ok_or(Why::NoCard)?;
     if l.index < f.index {
         return Err(Why::Backwards);
     }
