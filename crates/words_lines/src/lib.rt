@@ -59,7 +59,7 @@ pub enum Line {
     NotCarried,
 }
 
-// What a card says when the compile file is written.
+// What a card says when the compile file is written: three answers, so neither an Option nor a Result.
 #[derive(Clone, Copy, PartialEq, Eq)]
 pub enum Call {
     Not,

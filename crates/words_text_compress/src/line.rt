@@ -8,6 +8,7 @@ use words::{BLANK, GAP, code_of};
 // the most blanks that one run stands for
 const RUN: usize = 64;
 
+// The space and a place in it, and the next place as the answer: a cursor that held both would have the same clauses.
 fn put_one(a: u8, codes: &mut [u8], at: usize) -> usize
     requires { at < length codes.old }
     ensures value { result ≡ at + 1 }

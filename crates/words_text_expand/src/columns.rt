@@ -1,6 +1,7 @@
 // Columns of a line, written one after the other.
 ghost use Rattle.std.specs.Prelude.{◌≡◌, [], ◌∷◌, ◌++◌, ◌+◌, ◌≤◌, ◌<◌, length, take, drop, replicate};
 
+// The space and a place in it, and the next place as the answer: a cursor that held both would have the same clauses.
 pub(crate) fn put_column(b: u8, line: &mut [u8], at: usize) -> usize
     requires { at < length line.old }
     ensures value { result ≡ at + 1 }
