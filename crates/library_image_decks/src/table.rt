@@ -1,5 +1,5 @@
 // The table of an image's decks, a row for each (RULES, "Decks").
-ghost use Rattle.std.specs.Prelude.{◌≡◌, ◌+◌, ◌≤◌, ◌++◌, length, take, drop};
+ghost use Rattle.std.specs.Prelude.{◌≡◌, Some, ◌+◌, ◌≤◌, ◌++◌, length, take, drop};
 ghost use Rattle.library.specs.Check.{cards_place};
 ghost use Rattle.library_image_decks.specs.Decks.{row_of, table_of, table_into};
 
@@ -23,19 +23,15 @@ pub const COMMON: u64 = 1;
 pub const TABLE: usize = 1024;
 
 // A deck's row, at a place of the table.
-fn put_row(table: &mut [u64], at: usize, title: Option<Title>, from: usize, to: usize)
+fn put_row(table: &mut [u64], at: usize, title: Title, from: usize, to: usize)
     requires { at + 4 ≤ length table.old }
-    ensures table_after { take (at + 4) table.new ≡ take at table.old ++ row_of title from to }
+    ensures table_after { take (at + 4) table.new ≡ take at table.old ++ row_of (Some title) from to }
     ensures table_unchanged { drop (at + 4) table.new ≡ drop (at + 4) table.old }
 {
-    table[at] = title.map_or(0, |t| t.name);
+    table[at] = title.name;
     table[at + FROM] = from as u64;
     table[at + TO] = to as u64;
-    table[at + KIND] = if title.is_some_and(|t| t.common) {
-        COMMON
-    } else {
-        NORMAL
-    };
+    table[at + KIND] = if title.common { COMMON } else { NORMAL };
 }
 
 // Where the cards start.
@@ -62,7 +58,7 @@ fn put_rows(image: &[u64], table: &mut [u64]) -> usize
         let c = see(image, at);
         let from = c.next;
         let end = deck_end(image, from);
-        put_row(table, n, title_of(image, c), from, end);
+        put_row(table, n, title_of(image, c).unwrap(), from, end);
         n += ROW;
         at = end;
     }

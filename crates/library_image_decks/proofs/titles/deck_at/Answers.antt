@@ -2,7 +2,6 @@
 use mathlib.Core.Path.{sym, ap, ◌∙◌}
 use mathlib.Core.List.{List}
 use Prim.Native.Nat.{ℕ}
-use lib.Seq.{length-take-le}
 use Rattle.library.specs.Library.{deck_line}
 use Rattle.library.specs.Asked.{deck_line_of}
 use Rattle.library_image.proofs.CardPlaces.{line_taken}

@@ -2,7 +2,7 @@ use Rattle.library_image_decks.proofs.DeckTitles.{title-some}
 use Rattle.library_image_decks.proofs.DeckRows.{end-here, end_on, end-past}
 use Rattle.library_image_decks.specs.Decks.{is_title, title_in, deck_end}
 use native.Mathlib.Omega.{arith}
-use mathlib.Core.Path.{refl, sym, ap, ◌∙◌}
+use mathlib.Core.Path.{sym, ap, ◌∙◌}
 use borrow.Author.Rules.{rules}
 use Rattle.library_image_decks.proofs.titles.deck_end.Goals as goal
 
