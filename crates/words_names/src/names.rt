@@ -117,6 +117,7 @@ fn put_digits(n: u64, space: &mut [u8]) -> usize
 {
     let mut m = n;
     let mut at = DIGITS - 1;
+    // no end to count to: as many turns as the number has digits
     while 10 <= m {
         space[at] = digit(m % 10);
         m /= 10;

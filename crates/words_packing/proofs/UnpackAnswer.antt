@@ -1,4 +1,5 @@
--- What the space holds after unpacking to words of eight bytes: unpack-eights-even, unpack-eights-into
+-- What the space holds after unpacking to words of eight bytes.
+--   unpack-eights-even, unpack-eights-into
 use mathlib.Core.Path.{◌≡◌}
 use mathlib.Core.List.{List}
 use Prim.Native.Nat.{ℕ, ◌/◌, ◌%◌}

@@ -40,7 +40,7 @@ fn are_words<E: Stands>(words: &[E]) -> bool
     true
 }
 
-// The writing alone, where all fits: two words a turn, and then an odd last one.
+// The writing alone, where all fits: by twos, and then an odd last one.
 fn write_packed<E: Stands>(words: &[E], out: &mut [u8])
     requires { (all is_word (E.words words.now) ≡ true) × (packed_length (length (E.words words.now)) ≤ length out.old) }
     ensures { out.new ≡ packed (E.words words.now) ++ drop (packed_length (length (E.words words.now))) out.old }
@@ -48,6 +48,7 @@ fn write_packed<E: Stands>(words: &[E], out: &mut [u8])
     let n = E::count(words);
     let mut i = 0;
     let mut at = 0;
+    // two words a turn
     while 2 <= n - i {
         put_pair(
             &mut out[at..at + PAIR],

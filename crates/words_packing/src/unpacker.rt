@@ -27,13 +27,14 @@ fn unpackable(bytes: &[u8], room: usize) -> Result<usize, PackingRefused>
     Ok(size)
 }
 
-// The writing alone, where all fits: 15 bytes a turn, and then the last eight.
+// The writing alone, where all fits: by fifteens, and then the last eight.
 fn write_unpacked<E: Stands>(bytes: &[u8], out: &mut [E])
     requires { (is_packed_length (length bytes.now) ≡ true) × (unpacked_length (length bytes.now) ≤ length (E.words out.old)) }
     ensures { E.words out.new ≡ unpacked bytes.now ++ drop (unpacked_length (length bytes.now)) (E.words out.old) }
 {
     let mut at = 0;
     let mut i = 0;
+    // 15 bytes and two words a turn
     while PAIR <= bytes.len() - at {
         E::put(out, i, high(bytes, at) / NIBBLE);
         E::put(out, i + 1, high(bytes, at + SECOND) % LIMIT);
