@@ -200,6 +200,7 @@ fn cards_from(image: &[u64], directory: &[u64], from: usize) -> Result<(), Refus
 {
     let mut at = from;
     let mut n = 0;
+    // from card to card: no index loop
     while at < image.len() {
         if n == MOST_CARDS {
             return Err(Refusal {

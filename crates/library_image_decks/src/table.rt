@@ -51,6 +51,7 @@ fn put_rows(image: &[u64], table: &mut [u64]) -> usize
 {
     let mut at = deck_end(image, cards_place(image));
     let mut n = 0;
+    // from deck to deck: no index loop
     while at < image.len() {
         if n == TABLE {
             return n;

@@ -47,6 +47,7 @@ pub fn deck_end(image: &[u64], from: usize) -> usize
     ensures value { result ≡ deck_end image.now from }
 {
     let mut at = from;
+    // from card to card: no index loop
     while at < image.len() {
         let c = library_image::see(image, at);
         if title_of(image, c).is_some() {
