@@ -15,6 +15,7 @@ use library::{
 const LAST_ALONE: u64 = 0o40;
 
 const ZEROS: u64 = 0o20;
+
 // Where the first word with bit 59 stands.
 fn last_word(words: &[u64]) -> Option<usize>
     ensures value { result ≡ position_from is_last_word 0 words.now }

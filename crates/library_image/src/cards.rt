@@ -50,7 +50,7 @@ pub fn see(image: &[u64], at: usize) -> Seen
     let w = word_at(image, at);
     let text = text_at(image, at);
     Seen {
-        text: text,
+        text,
         next: least(text + (w / UPPER % FIELD) as usize, image.len()),
         owner: w % NUMBER,
         seq: w / FIELD % FIELD,
