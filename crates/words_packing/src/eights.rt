@@ -6,7 +6,7 @@ ghost use Rattle.words_packing.specs.Pack.{bytes_of, number_of, low_bytes, low_n
 pub(crate) const EIGHT: usize = 8;
 
 // The eight bytes from a place.
-fn eight(bytes: &[u8], at: usize) -> [u8; EIGHT]
+pub(crate) fn eight(bytes: &[u8], at: usize) -> [u8; EIGHT]
     requires { at + 8 ≤ length bytes.now }
     ensures { result ≡ take 8 (drop at bytes.now) }
 {
@@ -22,20 +22,18 @@ fn eight(bytes: &[u8], at: usize) -> [u8; EIGHT]
     ]
 }
 
-// The number that they write, lowest first.
-pub(crate) fn low(bytes: &[u8], at: usize) -> u64
-    requires { at + 8 ≤ length bytes.now }
-    ensures { result ≡ low_number (take 8 (drop at bytes.now)) }
+// The number that eight bytes write, lowest first.
+pub(crate) fn low(bytes: [u8; EIGHT]) -> u64
+    ensures { result ≡ low_number bytes }
 {
-    u64::from_le_bytes(eight(bytes, at))
+    u64::from_le_bytes(bytes)
 }
 
 // The number that they write, highest first.
-pub(crate) fn high(bytes: &[u8], at: usize) -> u64
-    requires { at + 8 ≤ length bytes.now }
-    ensures { result ≡ number_of 0 (take 8 (drop at bytes.now)) }
+pub(crate) fn high(bytes: [u8; EIGHT]) -> u64
+    ensures { result ≡ number_of 0 bytes }
 {
-    u64::from_be_bytes(eight(bytes, at))
+    u64::from_be_bytes(bytes)
 }
 
 // The bytes of a number, lowest first.

@@ -2,7 +2,7 @@
 ghost use Rattle.std.specs.Prelude.{◌≡◌, ℕ, ◌^◌, ◌<◌, List, length, get_or, slice_set};
 ghost use Rattle.words_packing.specs.Pack.{words_of_eights};
 
-use crate::eights::{EIGHT, low, put_low};
+use crate::eights::{EIGHT, eight, low, put_low};
 
 // An element of a space that words stand in.
 pub(crate) trait Stands: Copy {
@@ -48,7 +48,7 @@ impl Stands for u8 {
 
     #[tactic(auto, using(crate::proofs::PackAnswer::eights_count))]
     fn word(space: &[u8], i: usize) -> u64 {
-        low(space, i * EIGHT)
+        low(eight(space, i * EIGHT))
     }
 
     #[tactic(auto, using(crate::proofs::PackAnswer::eights_count))]

@@ -3,7 +3,7 @@ ghost use Rattle.std.specs.Prelude.{◌≡◌, true, ◌++◌, ◌≤◌, length
 ghost use Rattle.words_packing.specs.Pack.{is_packed_length, unpacked_length, unpacked, unpacking, unpack_into, unpacking_eights, unpack_eights_into};
 
 use crate::PackingRefused;
-use crate::eights::{EIGHT, high};
+use crate::eights::{EIGHT, eight, high};
 use crate::packer::{LIMIT, NIBBLE, PAIR, SECOND};
 use crate::stands::Stands;
 
@@ -36,13 +36,13 @@ fn write_unpacked<E: Stands>(bytes: &[u8], out: &mut [E])
     let mut i = 0;
     // 15 bytes and two words a turn
     while PAIR <= bytes.len() - at {
-        E::put(out, i, high(bytes, at) / NIBBLE);
-        E::put(out, i + 1, high(bytes, at + SECOND) % LIMIT);
+        E::put(out, i, high(eight(bytes, at)) / NIBBLE);
+        E::put(out, i + 1, high(eight(bytes, at + SECOND)) % LIMIT);
         at += PAIR;
         i += 2;
     }
     if at < bytes.len() {
-        E::put(out, i, high(bytes, at) / NIBBLE);
+        E::put(out, i, high(eight(bytes, at)) / NIBBLE);
     }
 }
 

@@ -18,7 +18,7 @@ loop-at-preserved g c =
       turns = omega arith;
       pace = omega arith;
       filling =
-          rw (c.put-in-loop-at.ensures, c.put.ensures, c.high.ensures, c.high-in-loop-at.ensures)
+          rw (c.put-in-loop-at.ensures, c.put.ensures, c.high.ensures, c.eight.ensures, c.high-in-loop-at.ensures, c.eight-in-loop-at.ensures)
           (fill-two (number_of 0 (take 8 (drop l.at bs)) / 16) (number_of 0 (take 8 (drop (l.at + 7) bs)) % 2 ^ 60) next (omega (arith, l.invariant.filling.long)));
     }
 
@@ -29,4 +29,4 @@ returns-then-at-bytes g c =
     let n = left_over (length bs) l.at c.requires.0 l.invariant.turns c.if-at-bytes.true (omega arith) in
     let size : unpacked_length (length bs) ≡ l.i + 1 = omega arith in
     let last = rw (unpacked-last (drop l.at bs) (rw length-drop (omega arith))) at l.invariant.filling in
-    rw (size, c.put-then-at-bytes.ensures, c.high-then-at-bytes.ensures) (fill_end (fill-set (number_of 0 (take 8 (drop l.at bs)) / 16) last (omega (arith, l.invariant.filling.long))))
+    rw (size, c.put-then-at-bytes.ensures, c.high-then-at-bytes.ensures, c.eight-then-at-bytes.ensures) (fill_end (fill-set (number_of 0 (take 8 (drop l.at bs)) / 16) last (omega (arith, l.invariant.filling.long))))

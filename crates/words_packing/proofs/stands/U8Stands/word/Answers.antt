@@ -10,4 +10,4 @@ use Rattle.words_packing.proofs.stands.U8Stands.word.Goals as goal
 pub returns : goal.returns
 returns c =
     let bs = c.args.space.now in
-    c.low.ensures ∙ sym (word-of (length bs / 8) c.args.i bs (omega (arith, eights_count (length bs / 8) bs, c.requires)))
+    rw c.eight.ensures at c.low.ensures ∙ sym (word-of (length bs / 8) c.args.i bs (omega (arith, eights_count (length bs / 8) bs, c.requires)))
