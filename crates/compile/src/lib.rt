@@ -11,7 +11,7 @@ use compile_walk::{Counts, Halt, Stop, walk_decks};
 use library::Refusal;
 use library_image_decks::{TABLE, put_table};
 
-// rows of the table
+// rows of the table, as numbers, which C is answered
 const DONE: u64 = 0;
 
 const NO_DECK: u64 = 40;

@@ -33,7 +33,7 @@ struct Pass<'a> {
 }
 
 impl Pass<'_> {
-    // The line of a text card, in 91 bytes of the space, where the pass writes.
+    // The line of a text card, in 91 bytes of the space, where the pass writes. What `see` says of a card is asked for, since `Seen` is any crate's to make.
     fn put(&self, line: &[u8], c: Seen, out: &mut [u8], so_far: Counts) -> Result<Counts, Halt>
         requires { (c.seq < 262144) × (c.owner < 65536) }
         ensures { walk_state result out.new ≡ put_of self.now.writes (shown_named self.now.image.now line.now c) so_far.lines so_far.calls out.old }
@@ -111,6 +111,7 @@ impl Pass<'_> {
     {
         let mut at = cards.from;
         let mut counts = so_far;
+        // a walk from card to card
         while at < self.image.len() {
             if cards.to <= at {
                 return Ok(counts);

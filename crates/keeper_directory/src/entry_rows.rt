@@ -1,5 +1,5 @@
 // The directory of a library, a row for each entry (RULES, "Directory", "When a card is active").
-ghost use Rattle.std.specs.Prelude.{◌≡◌, ◌++◌, ◌*◌, ◌≤◌, ◌<◌, eqb, length, drop};
+ghost use Rattle.std.specs.Prelude.{◌≡◌, ◌++◌, ◌*◌, ◌≤◌, ◌<◌, length, drop};
 ghost use Rattle.library.specs.Check.{directory_count, directory_of};
 ghost use Rattle.library_tables.specs.Found.{Sized, Tabled};
 ghost use Rattle.library_yanks.specs.Bytes.{part};
@@ -38,10 +38,10 @@ fn kind_byte(w: u64, kind: u8) -> u8
     if w == library::PURGED { PURGED } else { kind }
 }
 
-fn mark_byte(flag: u64) -> u8
-    ensures { result ≡ yank_mark (eqb flag 1) }
+fn mark_byte(yanked: bool) -> u8
+    ensures { result ≡ yank_mark yanked }
 {
-    if flag == 1 { YANKED } else { BLANK }
+    if yanked { YANKED } else { BLANK }
 }
 
 // The name in its columns.
@@ -52,16 +52,16 @@ fn put_name(name: &[u8], row: &mut [u8])
     row[..NAME].copy_from_slice(name);
 }
 
-// The row of an entry of this word, kind and flag.
-fn put_row(w: u64, kind: u8, flag: u64, row: &mut [u8])
+// The row of an entry of this word and kind, yanked or not.
+fn put_row(w: u64, kind: u8, yanked: bool, row: &mut [u8])
     requires { length row.old ≡ 11 }
-    ensures { row.new ≡ row_bytes w kind (eqb flag 1) }
+    ensures { row.new ≡ row_bytes w kind yanked }
 {
     let mut name = [BLANK; NAME];
     words_names::name_of_word(w, &mut name);
     put_name(&name, row);
     row[KIND] = kind_byte(w, kind);
-    row[MARK] = mark_byte(flag);
+    row[MARK] = mark_byte(yanked);
 }
 
 // A row for each word of the directory.
@@ -71,7 +71,7 @@ fn put_rows(directory: &[u64], kinds: &[u8], flags: &[u64; ENTRIES], rows: &mut 
 {
     for (i, w) in directory.iter().enumerate() {
         let at = i * ROW;
-        put_row(*w, kinds[i + 1], flags[i + 1], &mut rows[at..at + ROW]);
+        put_row(*w, kinds[i + 1], flags[i + 1] == 1, &mut rows[at..at + ROW]);
     }
 }
 

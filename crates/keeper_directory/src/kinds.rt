@@ -4,6 +4,7 @@ ghost use Rattle.keeper_directory.specs.Parts.{kind_put, Kinds};
 
 use library::DeckLine;
 
+// the bytes that a row shows
 const NORMAL: u8 = b'D';
 
 const COMMON: u8 = b'C';
@@ -29,6 +30,7 @@ pub(crate) fn put_kinds(image: &[u64], from: usize, kinds: &mut [u8])
     ensures { Kinds image.now from kinds.old kinds.new }
 {
     let mut at = from;
+    // a walk from card to card
     while at < image.len() {
         let c = library_image::see(image, at);
         let next = c.next;

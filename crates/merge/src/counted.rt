@@ -8,6 +8,7 @@ pub(crate) fn count_cards(image: &[u64], from: usize) -> usize
 {
     let mut at = from;
     let mut n: usize = 0;
+    // a walk from card to card
     while at < image.len() {
         let c = library_image::see(image, at);
         at = c.next;

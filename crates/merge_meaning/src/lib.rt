@@ -17,7 +17,7 @@ pub enum MergeRefused {
     Space,
 }
 
-// the rows
+// the rows, as numbers, which C is answered
 const DONE: u64 = 0;
 
 const LIMIT: u64 = 31;
@@ -53,7 +53,7 @@ pub fn merged_value(r: Result<usize, MergeRefused>) -> u64
     }
 }
 
-// the library at fault
+// the library at fault, as a number, which C is answered
 const NEITHER: u64 = 0;
 
 const FIRST: u64 = 1;

@@ -2,7 +2,6 @@
 use native.Mathlib.Omega.{arith}
 use mathlib.Core.Path.{sym}
 use lib.ListN.{length-set}
-use lib.Dec.{eqb}
 use Rattle.keeper_directory.proofs.RowBytes.{name-long, row_put}
 use Rattle.keeper_directory.proofs.entry_rows.put_row.Goals as goal
 
@@ -18,4 +17,4 @@ bounds-row-10 c = simp length-set (omega (arith, c.put_name.auto.row, c.requires
 pub returns : goal.returns
 returns c =
     let a = c.args in
-    row_put a.w a.kind (eqb a.flag 1) a.row.now _ _ _ _ c.requires c.name_of_word.ensures.name_after c.put_name.ensures c.kind_byte.ensures c.mark_byte.ensures
+    row_put a.w a.kind a.yanked a.row.now _ _ _ _ c.requires c.name_of_word.ensures.name_after c.put_name.ensures c.kind_byte.ensures c.mark_byte.ensures
