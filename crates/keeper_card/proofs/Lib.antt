@@ -1,4 +1,4 @@
--- How many digits a number has, counted one after another.
+-- How many digits a number has, by the powers of ten.
 pub mod DigitCount
 -- A card's name, a point and a number written one after another.
 pub mod PointedName

@@ -4,5 +4,5 @@ pub mod KeysAhead
 pub mod WaysKept
 -- A key's ways lead through the tree to where it stands, and where they end it stands nowhere.
 pub mod KeyWays
--- Keys of which each comes to a slot that none ahead has marked are all different.
+-- Keys of which each comes to a slot that no key ahead has marked are all different.
 pub mod KeySlots

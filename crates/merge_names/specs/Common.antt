@@ -1,4 +1,5 @@
 -- CODE. The place of a name that two directories have, or none.
+--   or_none
 use Rattle.std.specs.Prelude.{ℕ}
 use Rattle.std.proofs.Math.Option.{Option, none, some}
 
