@@ -182,7 +182,6 @@ module _ (w dir : List ℕ) (d : Desk) (r : CardName) (v names decks flags line 
     insert-none (some a) e h = absurd h
 
   module _ (on : d.set ≡ true) (f : Sought) where
-
     insert-barred : f.index < d.yanks → (o : Option Spot) → find s.lib r ≡ o → SoughtAs s.lib d.gap held.below held.above r (Some f) o
         → Answered v dir names decks flags (Err Barred) (step s line)
     insert-barred y none e h = absurd h
@@ -233,7 +232,6 @@ module _ (w dir : List ℕ) (d : Desk) (r : CardName) (v names decks flags line 
     before-none (some a) e h = absurd h
 
   module _ (on : d.set ≡ true) (f : Sought) where
-
     -- whether the card is a deck card, by its owner and number
     is-titled : f.index < d.cards → (a : Spot) → SoughtAt s.lib d.gap held.below held.above r f a → is_deck_spot a ≡ (eqb r.seq 1 && flagged decks f.own)
     is-titled lt a h =

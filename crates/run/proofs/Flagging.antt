@@ -7,7 +7,6 @@ use mathlib.Core.List.{List, ◌∷◌, map}
 use lib.Dec.{eqb}
 use lib.ListN.{length, take, drop, set, get_or, drop_of_length-le}
 use lib.Seq.{drop-cons, get_or-set_same, get_or-set_other}
-use Rattle.std.proofs.lemmas.List.{drop-take}
 use Rattle.words.proofs.TestParts.{or-false, or-true}
 use Rattle.words.specs.Base.{member}
 use Rattle.library_yanks_bits.specs.SettledBits.{flagged}
@@ -62,7 +61,3 @@ flag-end of names i flags done h m =
     or-none : (a : Bool) → a ≡ (a || false)
     or-none true = refl
     or-none false = refl
-
--- a deck list's names after its first are those from the second on
-pub names-listed : (names : List ℕ) (k : ℕ) → 0 < k → take (k - 1) (drop 1 names) ≡ drop 1 (take k names)
-names-listed names k pos = let e : 1 + (k - 1) ≡ k = omega arith in sym (drop-take 1 (k - 1) names) ∙ ap (λ (n : ℕ). drop 1 (take n names)) e

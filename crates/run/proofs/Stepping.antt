@@ -72,12 +72,6 @@ pub number-after-is : (n : ℕ) → n ≤ 262143 → number_after n ≡ n + 1
 unfolding number_after
 number-after-is n h = rw (le-ltb 262143 n h)
 
--- where the words fit the array, the counts say
-pub fitted-counts : (d : Desk) (b : Bool) → d.gap.lo ≤ d.gap.hi → within_counts d.entries (d.decks + 1) d.cards (word_count d) ≡ b
-    → fitted d ≡ (if b then Ok d else Err Limit)
-fitted-counts d true le e = rw (le-leb d.gap.lo d.gap.hi le, e)
-fitted-counts d false le e = rw (le-leb d.gap.lo d.gap.hi le, e)
-
 pub fitted-sane : (w : List ℕ) (d : Desk) → d.gap.hi ≤ length w → length w ≡ 65536 → d.next ≤ d.cards + 1 → d.yanks ≤ d.cards → d.low ≤ d.cards → SaneAfter w (fitted d)
 fitted-sane w d hi room next yanks low = go (all_of (fit_tests d)) (fits-of d)
   where

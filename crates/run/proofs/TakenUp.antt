@@ -56,7 +56,7 @@ module _ (old : List ℕ) where
 
   module _ (w dir names decks w₀ dir₀ names₀ : List ℕ) (t c : Place)
       (ew : w ≡ drop (2 + N + K) old ++ drop low w₀) (ed : dir ≡ take N (drop 2 old) ++ drop N dir₀) (en : names ≡ take K (drop (2 + N) old) ++ drop K names₀) (room : length w ≡ 65536)
-      (fl : FlagsDecks dir N names K decks) (ft : FindsTitle w low decks t) (fc : Finds w 0 low 0 0 c) where
+      (fl : FlagsDecks (take N dir) (take K names) decks) (ft : FindsTitle w low decks t) (fc : Finds w 0 low 0 0 c) where
     module _ (l : Library) (ok : check old ≡ good l) where
       abbrev yk : ℕ → Bool
       yk = yanked l 0

@@ -21,26 +21,6 @@ use Rattle.run_meaning.specs.declared.Why.{Why}
 use Rattle.run_meaning.specs.declared.Why.TheVariants.{Nowhere, Unknown, NoSet}
 use Rattle.run_meaning.proofs.FlatFind.{eqb_yes, eqb_no}
 
--- ONE NAME
-module _ (directory : List ℕ) (w : ℕ) where
-  pub unknown-reserved : w ≡ reserved → false ≡ unknown_in directory w
-  unknown-reserved e = sym (ap (λ (b : Bool). not (b || not (eqb (entry_of directory w) 0))) (eqb_yes w reserved e))
-
-  pub unknown-entry : (w ≡ reserved → ⊥) → (r : ℕ) → r ≡ entry_of directory w → eqb r 0 ≡ unknown_in directory w
-  unknown-entry ne r e =
-      ap (λ (n : ℕ). eqb n 0) e ∙ twice (eqb (entry_of directory w) 0)
-      ∙ sym (ap (λ (b : Bool). not (b || not (eqb (entry_of directory w) 0))) (eqb_no w reserved ne))
-    where
-      twice : (b : Bool) → b ≡ not (not b)
-      twice true = refl
-      twice false = refl
-
-  pub no-set-listed : (n : ℕ) (list : List ℕ) → member w list ≡ true → true ≡ no_set_in n directory list w
-  no-set-listed n list e = sym (ap (λ (b : Bool). b || eqb (entry_of directory w) n) e)
-
-  pub no-set-entry : (n : ℕ) (list : List ℕ) → member w list ≡ false → (r : ℕ) → r ≡ entry_of directory w → eqb r n ≡ no_set_in n directory list w
-  no-set-entry n list e r f = ap (λ (m : ℕ). eqb m n) f ∙ sym (ap (λ (b : Bool). b || eqb (entry_of directory w) n) e)
-
 -- A FIELD OF NAMES: the library's test of a list is the same
 pub any-listed : (q : ℕ → Bool) (ns : List ℕ) → list_any q ns ≡ any q ns
 any-listed q [] = refl

@@ -20,12 +20,12 @@ use Rattle.run.specs.declared.seek.Place.{Place}
 abbrev pub NoFlags : List ℕ → Type 0
 NoFlags flags = (m : ℕ) → flagged flags m ≡ false
 
--- the numbers of the k names of a deck list, YANK$$$ left out, in a directory of n entries
-abbrev pub listed_numbers : List ℕ → ℕ → List ℕ → ℕ → List ℕ
-listed_numbers dir n names k = map (entry_of (take n dir)) (drop 1 (take k names))
+-- the numbers of the names of a deck list, YANK$$$ left out, in a directory
+abbrev pub listed_numbers : List ℕ → List ℕ → List ℕ
+listed_numbers directory list = map (entry_of directory) (drop 1 list)
 
-abbrev pub FlagsDecks : List ℕ → ℕ → List ℕ → ℕ → List ℕ → Type 0
-FlagsDecks dir n names k flags = (m : ℕ) → flagged flags m ≡ member m (listed_numbers dir n names k)
+abbrev pub FlagsDecks : List ℕ → List ℕ → List ℕ → Type 0
+FlagsDecks directory list flags = (m : ℕ) → flagged flags m ≡ member m (listed_numbers directory list)
 
 -- THE FIRST DECK CARD among the cards below `to`: how many cards stand ahead of it, and how many words
 abbrev pub titled_card : List ℕ → Card → Bool

@@ -55,12 +55,10 @@ pub(crate) fn limited(d: Desk) -> Result<Desk, Why>
     ensures { result ≡ fitted d }
 {
     let g = d.gap;
-    if g.hi < g.lo {
-        return Err(Why::Limit);
-    }
     let words = AHEAD + d.entries + d.decks + g.lo + (MOST_WORDS - g.hi);
-    if library::within_limits(d.entries, d.decks + 1, d.cards, words) {
-        return Ok(d);
+    if g.lo <= g.hi && library::within_limits(d.entries, d.decks + 1, d.cards, words) {
+        Ok(d)
+    } else {
+        Err(Why::Limit)
     }
-    Err(Why::Limit)
 }

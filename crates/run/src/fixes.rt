@@ -24,7 +24,7 @@ pub(crate) fn seek_card(w: &[u64], dir: &[u64], d: Desk, r: CardName) -> Option<
     ensures bounds { IfSome result (λ f. Within w.now d f) }
     ensures seeks_card { SeeksCard w.now dir.now d r result }
 {
-    let own = entry_of(dir, d.entries, r.name) as u64;
+    let own = entry_of(&dir[..d.entries], r.name) as u64;
     if own == 0 {
         return None;
     }

@@ -5,7 +5,8 @@ ghost use Rattle.run.specs.Work.{OpensAfter, OpensAhead, OpensAt};
 
 use crate::card::see;
 
-// The words of cards stand below `lo`, and from `hi` to the array's end. `hi` below `lo` says that there is no room.
+// The words of cards stand below `lo`, and from `hi` to the array's end. `hi` below `lo` says that there is no room:
+// `limited` tests that with the other limits of 31, after all that a line changes.
 #[derive(Clone, Copy)]
 pub(crate) struct Gap {
     pub(crate) lo: usize,

@@ -12,14 +12,14 @@ use crate::seek::{Place, find};
 use crate::starts::entry_of;
 use library::{FIELD, MOST_WORDS};
 
-// The numbers of the names after the first of k: YANK$$$ has none.
-fn flag_decks(dir: &[u64], n: usize, names: &[u64], k: usize, flags: &mut [u64])
-    requires { (n ≤ length dir.now) × ((k ≤ length names.now) × ((n < length flags.old) × (0 < k))) }
-    ensures { FlagsDecks dir.now n names.now k flags.new }
+// The numbers of a deck list's names after the first: YANK$$$ has none.
+fn flag_decks(directory: &[u64], list: &[u64], flags: &mut [u64])
+    requires { (length directory.now < length flags.old) × (0 < length list.now) }
+    ensures { FlagsDecks directory.now list.now flags.new }
 {
     words_lists::clear(flags);
-    for name in &names[1..k] {
-        let e = entry_of(dir, n, *name);
+    for name in &list[1..] {
+        let e = entry_of(directory, *name);
         flags[e] = 1;
     }
 }
@@ -32,12 +32,13 @@ fn first_title(w: &[u64], to: usize, decks: &[u64]) -> Place
 {
     let mut at: usize = 0;
     let mut i: usize = 0;
+    // a walk from card to card
     while at < to {
         let c = see(w, at);
         let heads = c.heads;
         let count = c.count;
         if is_title(decks, c.owner, c.seq) {
-            return Place { at: at, index: i };
+            return Place { at, index: i };
         }
         at = at + heads + count;
         i += 1;
@@ -76,14 +77,11 @@ pub(crate) fn load(
     let k = (counts % FIELD) as usize;
     let lo = old.len() - (2 + n + k);
     load_words(old, n, k, w, dir, names);
-    flag_decks(dir, n, names, k, decks);
+    flag_decks(&dir[..n], &names[..k], decks);
     let t = first_title(w, lo, decks);
     let c = find(w, 0, lo, 0, 0);
     Desk {
-        gap: Gap {
-            lo: lo,
-            hi: MOST_WORDS,
-        },
+        gap: Gap { lo, hi: MOST_WORDS },
         low: c.index,
         entries: n,
         decks: k - 1,

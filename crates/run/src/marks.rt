@@ -45,10 +45,7 @@ fn mark_one(w: &mut [u64], g: Gap, n: u64, on: bool) -> Gap
     let heads = c.heads;
     let count = c.count;
     if w.len() < hi + heads + count {
-        return Gap {
-            lo: lo,
-            hi: w.len(),
-        };
+        return Gap { lo, hi: w.len() };
     }
     lower(w, lo, hi, heads);
     let r = add_byte(w, lo + heads, hi + heads, u64::from(on) * ACTIVATING + n);
@@ -78,16 +75,13 @@ fn pass_one(w: &mut [u64], g: Gap, was: bool, n: u64) -> Gap
     let c = see(w, hi);
     if c.active == was {
         if is_full(w, hi, c.heads) {
-            return Gap { lo: hi + 1, hi: hi };
+            return Gap { lo: hi + 1, hi };
         }
         return mark_one(w, g, n, !was);
     }
     let k = c.heads + c.count;
     if w.len() < hi + k {
-        return Gap {
-            lo: lo,
-            hi: w.len(),
-        };
+        return Gap { lo, hi: w.len() };
     }
     lower(w, lo, hi, k);
     Gap {
@@ -104,6 +98,7 @@ fn mark_range(w: &mut [u64], g: Gap, stop: usize, was: bool, n: u64) -> Gap
 {
     let mut h = g;
     let mut hi = g.hi;
+    // a walk from card to card
     while hi < stop {
         h = pass_one(w, h, was, n);
         hi = h.hi;
@@ -116,7 +111,14 @@ fn mark_range(w: &mut [u64], g: Gap, stop: usize, was: bool, n: u64) -> Gap
 
 // DELETE of what was active and RESTORE of what was not by the set n, over the cards from the gap up to the one with this owner and number: the gap, now directly after
 // that card, or why not (28, 31).
-pub(crate) fn mark_to(w: &mut [u64], g: Gap, owner: u64, seq: u64, was: bool, n: u64) -> Result<Gap, Why>
+pub(crate) fn mark_to(
+    w: &mut [u64],
+    g: Gap,
+    owner: u64,
+    seq: u64,
+    was: bool,
+    n: u64,
+) -> Result<Gap, Why>
     requires { Ordered w.old g × ((length w.old ≤ 65536) × (n < 65536)) }
     ensures keeps_order { KeepsOrder w.old result }
     ensures marks_to { MarksTo w.old g owner seq was n w.new result }

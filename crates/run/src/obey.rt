@@ -4,7 +4,7 @@ ghost use Rattle.run.specs.Desk.{Sane, SaneAfter};
 ghost use Rattle.run.specs.Streamed.{in_arrays};
 ghost use Rattle.run.specs.Resettled.{CorrectsLine, ObeysLine};
 
-use crate::desk::{Desk};
+use crate::desk::Desk;
 use crate::fixes::{before_step, insert_step};
 use crate::ranges::mark_step;
 use crate::starts::{deck_step, ident_step};

@@ -15,15 +15,9 @@ pub(crate) fn put_card(w: &mut [u64], g: Gap, text: &[u64], k: usize, seq: u64, 
     let lo = g.lo;
     let hi = g.hi;
     if hi < lo + 1 + k {
-        return Gap {
-            lo: lo + 1 + k,
-            hi: hi,
-        };
+        return Gap { lo: lo + 1 + k, hi };
     }
     w[lo] = LAST + ACTIVE + k as u64 * UPPER + seq * FIELD + ACTIVATING + n;
     words_lists::put(&text[..k], w, lo + 1);
-    Gap {
-        lo: lo + 1 + k,
-        hi: hi,
-    }
+    Gap { lo: lo + 1 + k, hi }
 }

@@ -119,14 +119,7 @@ fn mark_found(
 }
 
 // The last card of a range whose first is f. `*DELETE X.n` names one card for both, and that one is not sought again.
-fn seek_last(
-    w: &[u64],
-    dir: &[u64],
-    d: Desk,
-    a: CardName,
-    f: Sought,
-    b: CardName,
-) -> Option<Sought>
+fn seek_last(w: &[u64], dir: &[u64], d: Desk, a: CardName, f: Sought, b: CardName) -> Option<Sought>
     requires sane { Sane w.now d × ((length dir.now ≡ 1024) × Within w.now d f) }
     requires seeks_card { SeeksCard w.now dir.now d a (Some f) }
     ensures bounds { IfSome result (λ l. Within w.now d l) }

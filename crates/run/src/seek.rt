@@ -8,7 +8,8 @@ use crate::card::next_card;
 use crate::gap::Gap;
 use library::{ACTIVATING, FIELD};
 
-// Where a card stands: the word it begins at, and its index among the cards. The end and their count where it is not found.
+// Where a card stands: the word it begins at, and its index among the cards. The end and their count where it is not found: the cards of a library
+// are counted so.
 #[derive(Clone, Copy)]
 pub(crate) struct Place {
     pub(crate) at: usize,
@@ -32,9 +33,10 @@ pub(crate) fn find(w: &[u64], from: usize, to: usize, owner: u64, seq: u64) -> P
 {
     let mut at = from;
     let mut i: usize = 0;
+    // a walk from card to card
     while at < to {
         if is_card(w, at, owner, seq) {
-            return Place { at: at, index: i };
+            return Place { at, index: i };
         }
         at = next_card(w, at);
         i += 1;
@@ -55,6 +57,7 @@ pub(crate) fn locate(w: &[u64], g: Gap, low: usize, owner: u64, seq: u64) -> Pla
     let mut i: usize = 0;
     let mut b = g.hi;
     let mut j: usize = 0;
+    // two walks from card to card
     while b < end {
         if lo <= a {
             let r = find(w, b, end, owner, seq);

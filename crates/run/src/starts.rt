@@ -10,24 +10,19 @@ use crate::gap::open_ahead;
 use crate::texts::put_line;
 use run_meaning::Why;
 
-// The number of a name among the first n of the directory; 0 where it is not there.
-pub(crate) fn entry_of(dir: &[u64], n: usize, w: u64) -> usize
-    requires { n ≤ length dir.now }
-    ensures upper_bound { result ≤ n }
-    ensures value { result ≡ entry_of (take n dir.now) w }
+// The number of a name in the directory; 0 where it is not there.
+pub(crate) fn entry_of(directory: &[u64], w: u64) -> usize
+    ensures upper_bound { result ≤ length directory.now }
+    ensures value { result ≡ entry_of directory.now w }
 {
-    library_index::entry_of(&dir[..n], w)
+    library_index::entry_of(directory, w)
 }
 
-// Whether a name is not known, by the n entries of the directory: YANK$$$ always is.
-pub(crate) fn is_unknown(dir: &[u64], n: usize, w: u64) -> bool
-    requires { n ≤ length dir.now }
-    ensures { result ≡ unknown_in (take n dir.now) w }
+// Whether a name is not known, by the directory: YANK$$$ always is.
+pub(crate) fn is_unknown(directory: &[u64], w: u64) -> bool
+    ensures { result ≡ unknown_in directory.now w }
 {
-    if w == library::reserved_word() {
-        return false;
-    }
-    entry_of(dir, n, w) == 0
+    w != library::reserved_word() && entry_of(directory, w) == 0
 }
 
 // IDENT: a set begins, and text goes nowhere yet.
@@ -37,7 +32,7 @@ pub(crate) fn ident_step(dir: &mut [u64], d: Desk, word: u64) -> Result<Desk, Wh
     ensures ident_steps { IdentSteps dir.old d word dir.new result }
 {
     let n = d.entries;
-    if !is_unknown(dir, n, word) {
+    if !is_unknown(&dir[..n], word) {
         return Err(Why::Known);
     }
     dir[n] = word;
@@ -66,7 +61,7 @@ pub(crate) fn deck_step(
 {
     let n = d.entries;
     let k = d.decks + 1;
-    if !is_unknown(dir, n, word) {
+    if !is_unknown(&dir[..n], word) {
         return Err(Why::Known);
     }
     let g = d.gap;

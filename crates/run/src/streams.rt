@@ -3,7 +3,7 @@ ghost use Rattle.std.specs.Prelude.{◌≡◌, ◌≤◌, ◌<◌, length};
 ghost use Rattle.run.specs.Desk.{Sane};
 ghost use Rattle.run.specs.Streamed.{in_arrays, SaneEnd, ObeysStream};
 
-use crate::desk::{Desk};
+use crate::desk::Desk;
 use crate::obey::obey_line;
 use run_meaning::RunRefused;
 
@@ -24,11 +24,11 @@ pub(crate) fn obey_stream(
     let mut d = first;
     let mut at: usize = 0;
     let mut n: usize = 1;
+    // a walk from line to line
     while at < stream.len() {
         let line = words_lines::line_at(stream, at);
         let next = run_meaning::line_after(at, line);
-        d = obey_line(w, dir, names, decks, flags, d, line)
-            .map_err(|y| RunRefused::Stream(y, n))?;
+        d = obey_line(w, dir, names, decks, flags, d, line).map_err(|y| RunRefused::Stream(y, n))?;
         at = next;
         n += 1;
     }

@@ -1,5 +1,5 @@
 // YANK (RULES, "Corrections"): its line becomes the last card of YANK$$$; and the bits that change with YANK$$$.
-ghost use Rattle.std.specs.Prelude.{◌≡◌, ◌+◌, ◌≤◌, ◌<◌, length, take};
+ghost use Rattle.std.specs.Prelude.{◌≡◌, ◌≤◌, ◌<◌, length};
 ghost use Rattle.words.specs.Base.{any};
 ghost use Rattle.run.specs.Desk.{Sane, SaneAfter};
 ghost use Rattle.run.specs.Resettled.{Resettled, YankSteps};
@@ -13,30 +13,24 @@ use crate::texts::put_line;
 use run_meaning::Why;
 
 // 27 of one name: a deck's, YANK$$$, or that of the set itself, which is the directory's last.
-fn is_no_set(dir: &[u64], n: usize, names: &[u64], k: usize, w: u64) -> bool
-    requires { (n ≤ length dir.now) × (k ≤ length names.now) }
-    ensures { result ≡ no_set_in n (take n dir.now) (take k names.now) w }
+fn is_no_set(directory: &[u64], list: &[u64], w: u64) -> bool
+    ensures { result ≡ no_set_in (length directory.now) directory.now list.now w }
 {
-    if words_lists::stands(&names[..k], w) {
-        return true;
-    }
-    entry_of(dir, n, w) == n
+    words_lists::stands(list, w) || entry_of(directory, w) == directory.len()
 }
 
 // 26 over a whole field of names.
-fn any_unknown(dir: &[u64], n: usize, field: &[u8]) -> bool
-    requires { n ≤ length dir.now }
-    ensures { result ≡ any (unknown_in (take n dir.now)) (names_in field.now) }
+fn any_unknown(directory: &[u64], field: &[u8]) -> bool
+    ensures { result ≡ any (unknown_in directory.now) (names_in field.now) }
 {
-    words_lines_asked::names_of(field).any(|w| is_unknown(dir, n, w))
+    words_lines_asked::names_of(field).any(|w| is_unknown(directory, w))
 }
 
 // 27 over a whole field of names.
-fn any_no_set(dir: &[u64], n: usize, names: &[u64], k: usize, field: &[u8]) -> bool
-    requires { (n ≤ length dir.now) × (k ≤ length names.now) }
-    ensures { result ≡ any (no_set_in n (take n dir.now) (take k names.now)) (names_in field.now) }
+fn any_no_set(directory: &[u64], list: &[u64], field: &[u8]) -> bool
+    ensures { result ≡ any (no_set_in (length directory.now) directory.now list.now) (names_in field.now) }
 {
-    words_lines_asked::names_of(field).any(|w| is_no_set(dir, n, names, k, w))
+    words_lines_asked::names_of(field).any(|w| is_no_set(directory, list, w))
 }
 
 // The line as a card at the end of YANK$$$, under the flags of before; text then goes nowhere.
@@ -94,13 +88,13 @@ pub(crate) fn yank_step(
     if !d.set {
         return Err(Why::Nowhere);
     }
-    let n = d.entries;
-    let k = d.decks + 1;
+    let directory = &dir[..d.entries];
+    let list = &names[..d.decks + 1];
     let field = words_lines::field_of(line);
-    if any_unknown(dir, n, field) {
+    if any_unknown(directory, field) {
         return Err(Why::Unknown);
     }
-    if any_no_set(dir, n, names, k, field) {
+    if any_no_set(directory, list, field) {
         return Err(Why::NoSet);
     }
     let e = put_yank(w, d, line)?;

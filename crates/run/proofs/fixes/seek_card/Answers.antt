@@ -1,5 +1,7 @@
 -- An unknown owner has no card; a known one is looked for among all cards.
 use native.Mathlib.Omega.{arith}
+use lib.Seq.{length-take-le}
+use Rattle.run.proofs.Sums.{entry_place}
 use Rattle.run.proofs.Correcting.{seek-unknown, seek-missing, seek-known}
 use Rattle.run.proofs.fixes.seek_card.Goals as goal
 
@@ -17,7 +19,8 @@ pub returns : goal.returns
 returns c =
     let a = c.args in
     let o = c.entry_of-own in
-    let few = o.ensures.upper_bound in record {
-      bounds = record { own = omega (arith, few, c.requires.0.entries); at = c.locate-p.ensures.at_in_bounds.0; index = c.if-d-p.false };
+    let few = o.ensures.upper_bound in
+    let long = length-take-le a.d.entries a.dir.now (entry_place _ _ c.requires.0.entries c.requires.1) in record {
+      bounds = record { own = omega (arith, few, long, c.requires.0.entries); at = c.locate-p.ensures.at_in_bounds.0; index = c.if-d-p.false };
       seeks_card = seek-known a.w.now a.dir.now a.d a.r o.result c.locate-p.result o.ensures.value (omega (arith, c.if-own-eq0.false)) c.locate-p.ensures.locates c.if-d-p.false;
     }

@@ -35,8 +35,7 @@ pub returns : goal.returns
 returns c =
     let a = c.args in
     let on = not_left a.d.set c.if-not-d.false in
-    let e = present c.seek_card.result c.ok_or.result c.in_ok-f.f c.ok_or.ensures.value c.in_ok-f.was in
-    (
+    let e = present c.seek_card.result c.ok_or.result c.in_ok-f.f c.ok_or.ensures.value c.in_ok-f.was in (
       subst (λ o. IfSome o (λ f. Within a.w.now a.d f)) e c.seek_card.ensures.bounds,
       (subst (SeeksCard a.w.now a.dir.now a.d a.r) e c.seek_card.ensures.seeks_card, (on, c.if-f-d.false)),
     )

@@ -13,9 +13,6 @@ use Rattle.run.proofs.starts.deck_step.Goals as goal
 pub overflow_add-k : goal.overflow_add-k
 overflow_add-k c = deck-fits _ c.requires.0.decks
 
-pub is_unknown-requires : goal.is_unknown-requires
-is_unknown-requires c = entries-in _ _ c.requires.0.entries c.requires.1.0
-
 pub shape_of-dir-then-not-is_unknown : goal.shape_of-dir-then-not-is_unknown
 shape_of-dir-then-not-is_unknown c = refl
 

@@ -1,5 +1,5 @@
 -- One of a field's names passes the test just where the walk over them finds one.
-use Rattle.std.proofs.Common.{rules, take, ◌∙◌}
+use Rattle.std.proofs.Common.{rules, ◌∙◌}
 use Rattle.std.proofs.lemmas.Iterator.Consumers.{YieldsList-from_first}
 use Rattle.std.proofs.lemmas.Iterator.Search.{any_from_yields_List}
 use Rattle.words_lines_asked.specs.Parameters.{names_left}
@@ -10,5 +10,5 @@ use Rattle.run.proofs.yanks.any_unknown.Goals as goal
 pub returns : goal.returns
 returns c =
     let a = c.args in
-    any_from_yields_List (unknown_in (take a.n a.dir.now)) _ _ _ c.any.ensures.ran (YieldsList-from_first (λ w. w) names_left _ c.names_of.ensures) (λ w b q k. search rules)
-    ∙ any-listed (unknown_in (take a.n a.dir.now)) (names_in a.field.now)
+    any_from_yields_List (unknown_in a.directory.now) _ _ _ c.any.ensures.ran (YieldsList-from_first (λ w. w) names_left _ c.names_of.ensures) (λ w b q k. search rules)
+    ∙ any-listed (unknown_in a.directory.now) (names_in a.field.now)

@@ -2,9 +2,10 @@
 use Rattle.std.specs.Prelude.{Ok, Err}
 use Prim.Native.Nat.{ℕ, ◌+◌}
 use native.Mathlib.Omega.{arith}
-use mathlib.Core.Path.{◌≡◌, sym, ap, ◌∙◌, subst}
+use mathlib.Core.Path.{◌≡◌, sym, ap, ap₂, ◌∙◌, subst}
 use mathlib.Core.List.{List}
 use lib.ListN.{length, take}
+use lib.Seq.{length-take-le}
 use Rattle.std.proofs.lemmas.Result.{err_from_is_err_and}
 use Rattle.words.specs.Base.{any}
 use Rattle.run.specs.Desk.{SaneAfter}
@@ -18,11 +19,8 @@ pub returns-then-not-d : goal.returns-then-not-d
 returns-then-not-d c =
     let a = c.args in record { sane_after = tt; yank_steps = yank-off a.w.now a.dir.now a.names.now a.flags.now a.d a.line.now a.w.now a.flags.now (not_taken a.d.set c.if-not-d.true) }
 
-pub overflow_add-k : goal.overflow_add-k
-overflow_add-k c = deck-fits _ c.requires.0.decks
-
-pub any_unknown-requires : goal.any_unknown-requires
-any_unknown-requires c = entry_place _ _ c.requires.0.entries c.requires.1.0
+pub overflow_add-list : goal.overflow_add-list
+overflow_add-list c = deck-fits _ c.requires.0.decks
 
 pub returns-then-any_unknown : goal.returns-then-any_unknown
 returns-then-any_unknown c =
@@ -31,16 +29,14 @@ returns-then-any_unknown c =
     let same = c.field_of-field.ensures in
     let unknown = ap (λ (f : List ℕ). any (unknown_in (take a.d.entries a.dir.now)) (names_in f)) (sym same) ∙ sym c.any_unknown.ensures ∙ c.if-any_unknown.true in record { sane_after = tt; yank_steps = yank-unknown a.w.now a.dir.now a.names.now a.flags.now a.d a.line.now a.w.now a.flags.now set unknown }
 
-pub any_no_set-requires : goal.any_no_set-requires
-any_no_set-requires c = let p = c.requires in (entry_place _ _ p.0.entries p.1.0, decks-in _ _ p.0.decks p.1.1.0)
-
 pub returns-then-any_no_set : goal.returns-then-any_no_set
 returns-then-any_no_set c =
     let a = c.args in
     let set = not_left a.d.set c.if-not-d.false in
     let same = c.field_of-field.ensures in
     let known = ap (λ (f : List ℕ). any (unknown_in (take a.d.entries a.dir.now)) (names_in f)) (sym same) ∙ sym c.any_unknown.ensures ∙ c.if-any_unknown.false in
-    let barred = ap (λ (f : List ℕ). any (no_set_in a.d.entries (take a.d.entries a.dir.now) (take (a.d.decks + 1) a.names.now)) (names_in f)) (sym same) ∙ sym c.any_no_set.ensures ∙ c.if-any_no_set.true in record { sane_after = tt; yank_steps = yank-no-set a.w.now a.dir.now a.names.now a.flags.now a.d a.line.now a.w.now a.flags.now set known barred }
+    let long = length-take-le a.d.entries a.dir.now (entry_place _ _ c.requires.0.entries c.requires.1.0) in
+    let barred = ap₂ (λ (n : ℕ) (f : List ℕ). any (no_set_in n (take a.d.entries a.dir.now) (take (a.d.decks + 1) a.names.now)) (names_in f)) (sym long) (sym same) ∙ sym c.any_no_set.ensures ∙ c.if-any_no_set.true in record { sane_after = tt; yank_steps = yank-no-set a.w.now a.dir.now a.names.now a.flags.now a.d a.line.now a.w.now a.flags.now set known barred }
 
 pub put_yank-requires : goal.put_yank-requires
 put_yank-requires c = c.requires.0
@@ -64,7 +60,8 @@ returns c =
     let set = not_left a.d.set c.if-not-d.false in
     let field = c.field_of-field.ensures in
     let known = ap (λ (f : List ℕ). any (unknown_in (take a.d.entries a.dir.now)) (names_in f)) (sym field) ∙ sym c.any_unknown.ensures ∙ c.if-any_unknown.false in
-    let free = ap (λ (f : List ℕ). any (no_set_in a.d.entries (take a.d.entries a.dir.now) (take (a.d.decks + 1) a.names.now)) (names_in f)) (sym field) ∙ sym c.any_no_set.ensures ∙ c.if-any_no_set.false in
+    let long = length-take-le a.d.entries a.dir.now (entry_place _ _ c.requires.0.entries c.requires.1.0) in
+    let free = ap₂ (λ (n : ℕ) (f : List ℕ). any (no_set_in n (take a.d.entries a.dir.now) (take (a.d.decks + 1) a.names.now)) (names_in f)) (sym long) (sym field) ∙ sym c.any_no_set.ensures ∙ c.if-any_no_set.false in
     let p = c.put_yank in
     let r = c.resettle in
     let e = c.in_ok-e.was in
@@ -81,7 +78,8 @@ returns-in_err-e c =
     let set = not_left a.d.set c.if-not-d.false in
     let field = c.field_of-field.ensures in
     let known = ap (λ (f : List ℕ). any (unknown_in (take a.d.entries a.dir.now)) (names_in f)) (sym field) ∙ sym c.any_unknown.ensures ∙ c.if-any_unknown.false in
-    let free = ap (λ (f : List ℕ). any (no_set_in a.d.entries (take a.d.entries a.dir.now) (take (a.d.decks + 1) a.names.now)) (names_in f)) (sym field) ∙ sym c.any_no_set.ensures ∙ c.if-any_no_set.false in
+    let long = length-take-le a.d.entries a.dir.now (entry_place _ _ c.requires.0.entries c.requires.1.0) in
+    let free = ap₂ (λ (n : ℕ) (f : List ℕ). any (no_set_in n (take a.d.entries a.dir.now) (take (a.d.decks + 1) a.names.now)) (names_in f)) (sym long) (sym field) ∙ sym c.any_no_set.ensures ∙ c.if-any_no_set.false in
     let p = c.put_yank in
     let e = c.in_err-e.was in
     let same : length p.new.w ≡ length a.w.now = c.put_yank.auto.w in
