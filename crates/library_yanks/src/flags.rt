@@ -70,7 +70,7 @@ fn settle_in<const N: usize>(directory: &[u64], cards: &[u64], flags: &mut [u64]
     let index = Index::new(directory);
     let mut link = [0u64; N];
     let first = link_cards(cards, &mut link);
-    flags.fill(0);
+    words_lists::clear(flags);
     for n in (0..directory.len().min(MOST_ENTRIES)).rev() {
         act_owner(&index, cards, &first, &link, n + 1, flags);
     }

@@ -7,7 +7,13 @@ ghost use Rattle.words_lists.specs.Over.{over};
 pub fn stands(list: &[u64], w: u64) -> bool
     ensures { result ≡ member w list.now }
 {
-    list.contains(&w)
+    // `contains` looks at four a turn, and takes half as long again
+    for v in list {
+        if *v == w {
+            return true;
+        }
+    }
+    false
 }
 
 pub fn clear(list: &mut [u64])
@@ -24,10 +30,15 @@ fn within(n: usize, at: usize, room: usize) -> bool
 }
 
 // One list's elements over another's, from a place on; nothing where they reach beyond its end.
+#[tactic(auto, using(std::proofs::lemmas::List::Edits::paste_more))]
 pub fn put<T: Copy>(from: &[T], out: &mut [T], at: usize)
     ensures { out.new ≡ over at from.now out.old }
 {
-    if within(from.len(), at, out.len()) {
-        out[at..at + from.len()].copy_from_slice(from);
+    if !within(from.len(), at, out.len()) {
+        return;
+    }
+    // `copy_from_slice` would be a call of memmove, which the archive for C has not
+    for i in 0..from.len() {
+        out[at + i] = from[i];
     }
 }

@@ -3,7 +3,7 @@ ghost use Rattle.std.specs.Prelude.{◌≡◌, ◌+◌, ◌-◌, ◌/◌, ◌%�
 ghost use Rattle.words.specs.Names.{number_read, numeral};
 ghost use Rattle.words.specs.Spelt.{word_of_name, name_length, name_into, number_fits, number_into};
 
-use words::{BASE, BITS, BLANK, GAP, TEN, code_of, letter_of, power};
+use words::{BASE, BITS, BLANK, GAP, TEN, code_of, letter_of, power, wide};
 
 const NAME: usize = 9;
 
@@ -33,7 +33,7 @@ pub fn word_of_name(name: &[u8]) -> u64
         if c <= COLON || GAP <= c {
             return 0;
         }
-        w = w * BASE + u64::from(c);
+        w = w * BASE + wide(c);
     }
     w * power(TEN - name.len())
 }
@@ -58,7 +58,7 @@ fn name_length(word: u64) -> usize
         if c >= GAP {
             return 0;
         }
-        w = w * BASE + u64::from(c);
+        w = w * BASE + wide(c);
     }
     0
 }
@@ -94,7 +94,7 @@ pub fn number_read(digits: &[u8]) -> u64
         if *d < ZERO || NINE < *d {
             return 0;
         }
-        n = n * 10 + u64::from(*d - ZERO);
+        n = n * 10 + wide(*d - ZERO);
     }
     if LARGEST < n {
         return 0;

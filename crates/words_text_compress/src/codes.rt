@@ -2,7 +2,7 @@
 ghost use Rattle.std.specs.Prelude.{◌≡◌, ◌++◌, ℕ, ◌≤◌, ◌<◌, length, get_or, drop};
 ghost use Rattle.words.specs.Text.{words_of};
 
-use words::{BASE, TEN, power};
+use words::{BASE, TEN, power, wide};
 
 // Ten codes fill a word, and zeros what is left of the last: w has the codes of the word so far, of which there are k.
 pub(crate) fn fill(codes: &[u8], words: &mut [u64]) -> usize
@@ -19,10 +19,10 @@ pub(crate) fn fill(codes: &[u8], words: &mut [u64]) -> usize
         if k == TEN {
             words[m] = w;
             m += 1;
-            w = u64::from(*c);
+            w = wide(*c);
             k = 1;
         } else {
-            w = w * BASE + u64::from(*c);
+            w = w * BASE + wide(*c);
             k += 1;
         }
     }

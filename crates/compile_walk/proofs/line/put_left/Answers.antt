@@ -5,4 +5,4 @@ use Rattle.compile_walk.proofs.line.put_left.Goals as goal
 pub returns : goal.returns
 returns c =
     let n = c.least-n in
-    left_put c.args.text.now c.args.field.now _ _ n.result n.ensures.value n.ensures.upper_bound.0 n.ensures.upper_bound.1 c.copy_from_slice.ensures.after (c.fill.ensures.after (λ y e. e))
+    left_put c.args.text.now c.args.field.now _ _ n.result n.ensures.value n.ensures.upper_bound.0 n.ensures.upper_bound.1 c.put.ensures (c.fill.ensures.after (λ y e. e))

@@ -58,7 +58,7 @@ loop-i-preserved c =
     let k = c.code_in-c.result in
     let code = left-code w l.i k few is l.invariant.1.0 some in
     let in-name = left-inside w l.i k few is l.invariant.1.0 some in
-    let x : c.from.result ≡ k = c.from.ensures in
+    let x : c.wide.result ≡ k = c.wide.ensures in
     let one = letter-good (get_or (name_of w) l.i 0) k code (omega arith) c.if-c-ge-GAP.false in (
       omega arith,
       (
