@@ -37,7 +37,8 @@ fn yank_ok(image: &[u64], directory: &Index, list: &Index, c: Seen) -> bool
     yank_line_ok(directory, list, c.owner, &line[..n])
 }
 
-// Row 8 of the cards up to `end`, where YANK$$$ ends.
+// Row 8 of the cards up to `end`, where YANK$$$ ends. Not inlined, so that its names are given back before the check goes on.
+#[inline(never)]
 pub(crate) fn yanks_fault(
     image: &[u64],
     directory: &[u64],

@@ -62,7 +62,8 @@ fn act_owner(
     }
 }
 
-// In places for N words of cards: the owners from the highest down.
+// In places for N words of cards: the owners from the highest down. Not inlined, so that only one of the lengths takes of the stack.
+#[inline(never)]
 fn settle_in<const N: usize>(directory: &[u64], cards: &[u64], flags: &mut [u64])
     requires { (length cards.now ≤ N) × (N ≤ 65536) }
     ensures { flags.new ≡ from_top directory.now cards.now (top directory.now) (replicate (length flags.old) 0) }
