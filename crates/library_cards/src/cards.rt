@@ -16,18 +16,13 @@ const LAST_ALONE: u64 = 0o40;
 
 const ZEROS: u64 = 0o20;
 
-// Where the first word with bit 59 stands.
+// Where the first word with bit 59 stands. Not inlined, since its loop takes half as long again among the registers of the walk.
+#[inline(never)]
 fn last_word(words: &[u64]) -> Option<usize>
     ensures value { result ≡ position_from is_last_word 0 words.now }
     ensures upper_bound { IfSome result (λ i. i < length words.now) }
 {
-    // `position` takes a third longer where no word has it
-    for i in 0..words.len() {
-        if LAST <= words[i] {
-            return Some(i);
-        }
-    }
-    None
+    words.iter().position(|w| LAST <= *w)
 }
 
 // How many words stand ahead of a card's text: those up to the first with bit 59.

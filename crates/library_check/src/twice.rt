@@ -49,6 +49,8 @@ fn place_of(image: &[u64], from: usize, k: usize) -> usize
     at
 }
 
+// Not inlined, so that the keys are given back before the check goes on.
+#[inline(never)]
 pub(crate) fn twice_fault(image: &[u64], from: usize) -> Option<usize>
     ensures { Row10 image.now from result }
 {

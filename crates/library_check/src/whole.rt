@@ -13,7 +13,8 @@ use library::{DIRECTORY, Fault, Refusal, refuse};
 // a flag for each directory number, 0 to 1,023
 const FLAGS: usize = 1024;
 
-// Row 9, under the flags of the cards of YANK$$$, which end at `end`.
+// Row 9, under the flags of the cards of YANK$$$, which end at `end`. Not inlined, so that the check does not hold the flags for other rows.
+#[inline(never)]
 fn stored_fault(image: &[u64], directory: &[u64], from: usize, end: usize) -> Option<usize>
     requires { (from ≤ end) × (end ≤ length image.now) }
     ensures { RowBits directory.now image.now from end result }

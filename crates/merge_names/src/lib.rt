@@ -16,7 +16,9 @@ fn is_shared(first: &Index, w: u64) -> bool
     w != PURGED && first.number(w) != 0
 }
 
-// Where the second directory has the first name that the first has too, as a word of the second image, which is none of the header's; 0 where it has none.
+// Where the second directory has the first name that the first has too, as a word of the second image, which is none of the header's; 0 where it has none. Not inlined, so that
+// the merge does not hold its index while a library is checked.
+#[inline(never)]
 pub fn shared_name(first: &[u64], second: &[u64]) -> usize
     ensures { result ≡ or_none (place_from (has_name first.now) 2 second.now) }
 {
